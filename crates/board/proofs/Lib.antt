@@ -1,0 +1,4 @@
+mod Spelling
+mod Reading
+mod Taking
+mod Counting

@@ -1,0 +1,2 @@
+mod Literal
+mod Worked
