@@ -35,17 +35,19 @@ fn run(rt: &LibcRuntime) -> Result<(), AnyError> {
 
 // Prints the audit of the board that the words name.
 fn audit(rt: &LibcRuntime, text: &[u8], words: &[String]) -> Result<(), AnyError> {
-    let heap = rt.alloc();
     let mut table = [0i32; WORDS];
-    if let Err(fault) = sheet::read(text, &mut table) {
-        rt.print(refused_sheet(heap, text, fault)?)?;
-        return Err("the sheet is refused".into());
+    match sheet::read(text, &mut table) {
+        Ok(()) => hold(rt, Checked::new(&table), words),
+        Err(fault) => {
+            rt.print(refused_sheet(rt.alloc(), text, fault)?)?;
+            Err("the sheet is refused".into())
+        }
     }
-    if let Err(fault) = table::check(&table) {
-        rt.print(refused_sheet(heap, text, fault)?)?;
-        return Err("the table is refused".into());
-    }
-    let sheet = Checked::new(&table);
+}
+
+// Prints what the board reaches of the sheet's rules and what it costs.
+fn hold(rt: &LibcRuntime, sheet: Checked, words: &[String]) -> Result<(), AnyError> {
+    let heap = rt.alloc();
     match Board::read(words, &sheet) {
         Ok(board) => {
             rt.print(statement(heap, &sheet, &board)?)?;

@@ -1,2 +1,4 @@
 pub mod Balance
 pub mod Tables
+pub mod Sound
+pub mod Layouts

@@ -27,10 +27,10 @@ use Rattle.meaning.specs.Means.{value, Compares, True-for, All-true, cost, Mea
 use Rattle.meaning.proofs.Balance.{worth, worth-words, reach, balance, Row-met, Rows-met, rule-there, rule-back}
 
 -- the row of an index
-blank : Row
+pub blank : Row
 blank = record { degree = 0; coefs = [] }
 
-abbrev nth : List Row → ℕ → Row
+abbrev pub nth : List Row → ℕ → Row
 nth rs k = getD rs k blank
 
 -- the word j of row k
@@ -52,16 +52,16 @@ row-word (r ∷ rs) zs (suc k) j l h b =
     ∙ row-word rs zs k j (l .1) (omega arith) b
 
 module _ (front : List ℤ) (rs : List Row) (head : length front ≡ 44) (lined : Lined rs) (count : getD front 1 (pos 0) ≡ pos (length rs)) where
-  behind : (k j : ℕ) → k < length rs → j < 41 → getD (table-with front rs) (44 + 41 * k + j) (pos 0) ≡ getD (row-words (nth rs k)) j (pos 0)
+  pub behind : (k j : ℕ) → k < length rs → j < 41 → getD (table-with front rs) (44 + 41 * k + j) (pos 0) ≡ getD (row-words (nth rs k)) j (pos 0)
   behind k j h b =
       ap (λ (i : ℕ). getD (table-with front rs) i (pos 0)) (omega (arith, head))
       ∙ getD-append-add front (laid rs ++ replicate (2624 - 41 * length rs) (pos 0)) (41 * k + j) (pos 0)
       ∙ row-word rs (replicate (2624 - 41 * length rs) (pos 0)) k j lined h b
 
-  within : (i : ℕ) → i < 44 → getD (table-with front rs) i (pos 0) ≡ getD front i (pos 0)
+  pub within : (i : ℕ) → i < 44 → getD (table-with front rs) i (pos 0) ≡ getD front i (pos 0)
   within i h = let m : i < length front = omega arith in getD-append-left front (laid rs ++ replicate (2624 - 41 * length rs) (pos 0)) (pos 0) i m
 
-  rules-count : rules-of (table-with front rs) ≡ length rs
+  pub rules-count : rules-of (table-with front rs) ≡ length rs
   rules-count = ap natAbs (within 1 (omega arith) ∙ count)
 
   degree-is : (k : ℕ) → k < length rs → degree (table-with front rs) k ≡ nth rs k .degree
@@ -120,26 +120,26 @@ rows-lined : (k : Comparison) (cs : List ℤ) (b : ℤ) → Narrow cs → Lined 
 rows-lined AtLeast cs b h = (h .forty, tt)
 rows-lined Equal cs b h = (h .forty, (turn-narrow cs h .forty, tt))
 
-all-lined : (qs : List Rule) → All-narrow qs → Lined (all-rows qs)
+pub all-lined : (qs : List Rule) → All-narrow qs → Lined (all-rows qs)
 all-lined [] n = tt
 all-lined (q ∷ qs) n = lined-append (rule-rows q) (all-rows qs) (rows-lined (q .comparison) (words (q .sum)) (q .bound) (n .0)) (all-lined qs (n .1))
 
 -- the words in front
-front-length : (n m : ℕ) (p : Option Sum) → Narrow-price p → length (front-of n m p) ≡ 44
+pub front-length : (n m : ℕ) (p : Option Sum) → Narrow-price p → length (front-of n m p) ≡ 44
 front-length n m None h = refl
 front-length n m (Some s) h = ap (λ (k : ℕ). suc (suc (suc (suc k)))) (h .forty)
 
-front-count : (n m : ℕ) (p : Option Sum) → getD (front-of n m p) 1 (pos 0) ≡ pos m
+pub front-count : (n m : ℕ) (p : Option Sum) → getD (front-of n m p) 1 (pos 0) ≡ pos m
 front-count n m None = refl
 front-count n m (Some s) = refl
 
 -- the weights, as words
-abbrev weight-words : Option Sum → List ℤ
+abbrev pub weight-words : Option Sum → List ℤ
 weight-words None = replicate 40 (pos 0)
 weight-words (Some s) = words s
 
 -- the price, by the words in front
-weight-word : (n m : ℕ) (p : Option Sum) (i : ℕ) → getD (front-of n m p) (4 + i) (pos 0) ≡ getD (weight-words p) i (pos 0)
+pub weight-word : (n m : ℕ) (p : Option Sum) (i : ℕ) → getD (front-of n m p) (4 + i) (pos 0) ≡ getD (weight-words p) i (pos 0)
 weight-word n m p i = let e : 4 + i ≡ suc (suc (suc (suc i))) = omega arith in ap (λ (j : ℕ). getD (front-of n m p) j (pos 0)) e ∙ by p
   where
     by : (o : Option Sum) → getD (front-of n m o) (suc (suc (suc (suc i)))) (pos 0) ≡ getD (weight-words o) i (pos 0)

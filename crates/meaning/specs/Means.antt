@@ -12,7 +12,9 @@ use Rattle.lines.specs.declared.line.Comparison.the-variants.{AtLeast, Equal}
 use Rattle.lines.specs.declared.line.Rule.{Rule}
 use Rattle.lines.specs.declared.line.Sum.{Sum}
 use Rattle.rows.specs.Rows.{given}
+use Rattle.opb.specs.Language.{Language}
 use Rattle.opb.specs.Sheets.{Written, Says, table-of}
+use Rattle.table.specs.Layout.{Sound}
 use Rattle.table.specs.Meaning.{Meets, price}
 
 -- the value of a sum: the coefficients of the parts that are taken, added up
@@ -49,3 +51,7 @@ pub record Means (s : Written) (T : List ℤ) : Type 0 where
 
 abbrev pub Table-means : Type 0
 Table-means = (text : List ℕ) (s : Written) → Says text s → Means s (table-of s)
+
+-- The table of a sheet has the layout of a table.
+abbrev pub Table-sound : Type 0
+Table-sound = (text : List ℕ) (s : Written) → Language text s → Sound (table-of s)

@@ -28,6 +28,7 @@ use Rattle.rows.specs.Rows.{laid, table-with, front-of, all-rows, Narrow-price,
 use Rattle.sheet.specs.Reads.{Filled, Rules-read, Zeros, Laid, Body-read, Said, Text-read, Reading}
 use Rattle.opb.specs.Sheets.{Written, Price, RuleLine, NextRule, Rules, Body, Whole, unended, rows-of, Says, Refused, table-of}
 use Rattle.meaning.specs.Means.{Means}
+use Rattle.meaning.proofs.Layouts.{table-sound}
 use Rattle.meaning.proofs.Tables.{table-means}
 use Rattle.opb.specs.Language.{Language}
 use Rattle.opb.proofs.Whole.{language-sound, language-complete}
@@ -98,6 +99,7 @@ exactly text T U (Ok _) c = record {
   refuse = λ n e h. not-both text (c .1 .sheet) e (c .1 .says) h;
   unique = one-sheet text;
   means = meant text;
+  sound = table-sound text;
 }
 exactly text T U (Err (run.Sheet d)) c = record {
   came = c;
@@ -106,6 +108,7 @@ exactly text T U (Err (run.Sheet d)) c = record {
   refuse = λ n e h. (ap (λ (z : SheetFault). Err (run.Sheet z)) (refused-unique text d e (c .1) h), c .2);
   unique = one-sheet text;
   means = meant text;
+  sound = table-sound text;
 }
 exactly text T U (Err run.TableLength) c = record {
   came = c;
@@ -114,5 +117,6 @@ exactly text T U (Err run.TableLength) c = record {
   refuse = λ n e h. absurd (c .0 n);
   unique = one-sheet text;
   means = meant text;
+  sound = table-sound text;
 }
 exactly text T U (Err (run.Layout w)) c = absurd c

@@ -15,6 +15,7 @@ use Rattle.lines.specs.declared.line.Header.{Header}
 use Rattle.lines.specs.declared.line.Rule.{Rule}
 use Rattle.rows.specs.Rows.{all-rows, table-with, Lined}
 use Rattle.meaning.specs.Means.{Means}
+use Rattle.table.specs.Layout.{Sound}
 use Rattle.opb.specs.Language.{Language}
 use Rattle.opb.specs.Sheets.{Written, Rules, Body, rows-of, Says, Refused, table-of}
 
@@ -77,7 +78,8 @@ Came text T U (Err run.TableLength) = (length T ≡ 2668 → ⊥) × (U ≡ T)
 Came text T U (Err (run.Layout w)) = ⊥
 
 -- Reading is exact. Which answer comes and what the table then holds is fixed by the text: a text of the language gives
--- its sheet's table, and any other text its one fault and a table of zeros. The table means what the text says.
+-- its sheet's table, and any other text its one fault and a table of zeros. The table means what the text says, and has the
+-- layout of a table.
 pub record Reading (text : List ℕ) (T U : List ℤ) (r : Result (Unit {0}) RunFault) : Type 0 where
   pub came : Came text T U r
   pub unfit : (length T ≡ 2668 → ⊥) → (r ≡ Err run.TableLength) × (U ≡ T)
@@ -85,3 +87,4 @@ pub record Reading (text : List ℕ) (T U : List ℤ) (r : Result (Unit {0}) Run
   pub refuse : length T ≡ 2668 → (e : SheetFault) → Refused text e → (r ≡ Err (run.Sheet e)) × Zeros U
   pub unique : (s t : Written) → Language text s → Language text t → s ≡ t
   pub means : (s : Written) → Language text s → Means s (table-of s)
+  pub sound : (s : Written) → Language text s → Sound (table-of s)

@@ -13,27 +13,31 @@ use Rattle.table.specs.declared.place.Place.{Place}
 use Rattle.table.specs.declared.place.Place.the-variants.{Parts, Rules, Base, Priced, Weight, Degree, Coefficient}
 use Rattle.table.specs.Layout.{word, base, weight, degree, coefficient, parts-of, rules-of, priced, declared, stated, place-of, range, used, limits-of, Within, Fine, Sound}
 
-place-parts : place-of 0 ≡ Parts
+pub place-parts : place-of 0 ≡ Parts
 unfolding place-of
 place-parts = refl
 
-place-rules : place-of 1 ≡ Rules
+pub place-rules : place-of 1 ≡ Rules
 unfolding place-of
 place-rules = refl
 
-place-base : place-of 2 ≡ Base
+pub place-base : place-of 2 ≡ Base
 unfolding place-of
 place-base = refl
 
-place-weight : (i : ℕ) → i < 40 → place-of (4 + i) ≡ Weight i
+pub place-priced : place-of 3 ≡ Priced
+unfolding place-of
+place-priced = refl
+
+pub place-weight : (i : ℕ) → i < 40 → place-of (4 + i) ≡ Weight i
 unfolding place-of
 place-weight i l = grind (arith, tells)
 
-place-degree : (k : ℕ) → place-of (44 + 41 * k) ≡ Degree k
+pub place-degree : (k : ℕ) → place-of (44 + 41 * k) ≡ Degree k
 unfolding place-of
 place-degree k = grind (arith, tells)
 
-place-coefficient : (k i : ℕ) → i < 40 → place-of (44 + 41 * k + (1 + i)) ≡ Coefficient k i
+pub place-coefficient : (k i : ℕ) → i < 40 → place-of (44 + 41 * k + (1 + i)) ≡ Coefficient k i
 unfolding place-of
 place-coefficient k i l = grind (arith, tells)
 
