@@ -1,4 +1,6 @@
 // One question, asked to its end over any engine.
+#![tactic(auto)]
+
 ghost use Rattle.std.specs.Prelude.{◌≤◌};
 ghost use Rattle.ask.specs.Asking.{Asking};
 

@@ -2,6 +2,8 @@
 //
 // It prints the statement and ends with status 0, whether or not the board meets the sheet. A text that is no sheet and
 // words that name no board are refused: it prints why, and ends with status 1.
+#![tactic(auto)]
+
 use anyhow::anyhow;
 use board::Board;
 use refused::{refused_board, refused_sheet};

@@ -3,6 +3,8 @@
 //
 // What is kept of each core is printed, and is the same in every run. The times go to standard error: the shortest of all
 // tries, which says most on a machine that does other work too, and the average.
+#![tactic(auto)]
+
 mod wide;
 
 use gains::best::best_count_rule;

@@ -2,6 +2,8 @@
 //
 // What each text comes to is printed, and is the same in every run. The times go to standard error: the shortest of all
 // reads of a text, which says most on a machine that does other work too, and the average.
+#![tactic(auto)]
+
 mod shape;
 
 use shape::Shape;

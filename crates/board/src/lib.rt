@@ -3,6 +3,8 @@
 // The literals `x1 -x2` take part 1 and leave part 2 out; a part that no literal names is not taken. specs/Literal.antt
 // says what a word means, specs/Board.antt what a list of words makes of a board. What a board reaches, whether it meets
 // a sheet and what it costs is said by the meaning of the sheet's table.
+#![tactic(auto)]
+
 ghost use Rattle.std.specs.Prelude.{◌≡◌, ℕ, ◌<◌, ◌≤◌, map, IfOk, string_bytes, Decides, MatchOption, unsigned_abs};
 ghost use Rattle.rules.specs.Rule.{kept};
 ghost use Rattle.table.specs.Layout.{rules_of};

@@ -1,5 +1,7 @@
 // How the steps from a rule to the reformulated price fit together. The definitions are in specs/; each contract below is a
 // theorem about them.
+#![tactic(auto)]
+
 ghost use Rattle.core_laws.specs.Steps.{FloorCoresWeigh, FloorCoresGain, KeptRulesSuit, RulesHandedOut};
 
 // Where the weighted literals are assumed false, every literal of the core weighs something.

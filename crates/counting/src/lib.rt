@@ -1,5 +1,7 @@
 // How many literals of a core must be true: the least number that reaches its degree, and the count rules that follow. The
 // definitions are in specs/; each contract below is a theorem about them.
+#![tactic(auto)]
+
 ghost use Rattle.counting.specs.Counting.{GreatestFirst, CountLaw, WorkedCounts};
 ghost use Rattle.counting.specs.Gain.{HeavySuffices};
 

@@ -1,5 +1,7 @@
 // What follows from a rule: the laws of weakening, of division and of forced literals. The definitions are in specs/; each
 // contract below is a theorem about them.
+#![tactic(auto)]
+
 ghost use Rattle.derive.specs.Derive.{MarksRefute, ForcesLiteral, Weakening, Division, WorkedDivision};
 
 // A rule that marks break stays broken, and unmet, whatever else is marked.

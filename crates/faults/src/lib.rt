@@ -3,6 +3,8 @@
 // Each layer has an enum of its own. A fault of a lower layer travels up whole, inside the upper one's `Text` or
 // `Sheet` case, by `From` and `?`. What a screen shows of a fault is its `Refusal`: the layer that found it, the
 // fault's number and its place. `refusal-of` in specs/ says by case which three numbers each fault stands for.
+#![tactic(auto)]
+
 ghost use Rattle.std.specs.Prelude.{◌≡◌};
 ghost use Rattle.faults.specs.Refusals.{text_refusal, sheet_refusal, run_refusal, engine_refusal};
 ghost use Rattle.faults.specs.declared.fault.SheetFault.TheVariants.{Text};

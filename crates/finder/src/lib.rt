@@ -1,4 +1,6 @@
 // Whether some board meets a sheet, asked of any engine.
+#![tactic(auto)]
+
 ghost use Rattle.std.specs.Prelude.{◌≡◌, ℕ, ◌<◌};
 ghost use Rattle.rules.specs.Rule.{marked};
 ghost use Rattle.finder.specs.Finding.{Finds};

@@ -2,6 +2,8 @@
 //
 // It prints the statement of the board, what each rule reaches and needs, and the steps that the plain engine made. It ends
 // with status 0 whether or not there is a board. A text that is no sheet is refused: it prints why, and ends with status 1.
+#![tactic(auto)]
+
 use anyhow::anyhow;
 use finder::find;
 use finder::found::{Finding, Found};

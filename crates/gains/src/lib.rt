@@ -4,6 +4,8 @@
 // literals. The rounds weaken all literals of smallest weight, again and again, until nothing is counted any more; the first
 // round of greatest gain is kept. specs/Gains.antt says what is promised of it: no count rule over any of the core's literals
 // that follows from the core gains more.
+#![tactic(auto)]
+
 pub mod best;
 pub mod kinds;
 pub mod rounds;

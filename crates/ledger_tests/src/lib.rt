@@ -1,4 +1,6 @@
 // A sheet as a holder of rules, on examples.
+#![tactic(auto)]
+
 #[cfg(test)]
 mod tests {
     use engine::holder::RuleHolder;

@@ -1,4 +1,6 @@
 // Reading the lines of a sheet: sums, the header, the price line and rules.
+#![tactic(auto)]
+
 ghost use Rattle.std.specs.Prelude.{◌≡◌, ℕ, ◌+◌, ◌-◌, ◌<◌, ◌≤◌, length, IfOk};
 ghost use Rattle.text.specs.Reading.{Step, told};
 ghost use Rattle.lines.specs.Lines.{empty, placed, Part, Named, Term, goes_on, limit_of, Terms, Announced, HeaderLine, PriceLine, Compared, rows_for, Fitting, Bound, RuleAfter};

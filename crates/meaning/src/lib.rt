@@ -1,5 +1,7 @@
 // What a sheet means: a written rule or price and the words of the table say the same of every choice. The definitions
 // are in specs/; the contract below is the theorem.
+#![tactic(auto)]
+
 ghost use Rattle.meaning.specs.Means.{TableMeans, TableSound};
 
 // A choice meets the rows of a sheet's table exactly when it meets every written rule over the integers, and its price by

@@ -1,6 +1,8 @@
 // The notation of sheets and quotes: literals, rules and boards as text.
 //
 // specs/Text.antt says which bytes each of them is.
+#![tactic(auto)]
+
 ghost use Rattle.std.specs.Prelude.{◌≡◌, ◌<◌, replicate, IfOk, string_bytes};
 ghost use Rattle.table.specs.Layout.{parts_of};
 ghost use Rattle.board.specs.Board.{choice};

@@ -1,5 +1,7 @@
 // What a text says: the grammar of sheets and the table of a sheet are in specs/. There is no code here but the functions
 // whose contracts are theorems about them.
+#![tactic(auto)]
+
 ghost use Rattle.opb.specs.Language.{SameLanguage};
 ghost use Rattle.opb.specs.Sheets.{OneReading};
 

@@ -1,6 +1,8 @@
 // Refusals as a person reads them: what is wrong, where, and the line of the text with a caret under the place.
 //
 // specs/Refused.antt says which bytes are printed.
+#![tactic(auto)]
+
 ghost use Rattle.std.specs.Prelude.{◌≡◌, ◌<◌, [], map, IfOk, string_bytes, slice_index_or};
 ghost use Rattle.refused.specs.Refused.{text_words, sheet_words, run_words, shown_byte, dots_text, head_text, Excerpt, Told, board_text};
 

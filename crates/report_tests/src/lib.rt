@@ -1,4 +1,6 @@
 // What an audit prints, on examples: the statement of a small sheet, and refusals with the caret under the place.
+#![tactic(auto)]
+
 #[cfg(test)]
 mod tests {
     use board::Board;

@@ -1,4 +1,6 @@
 // Normal form: how written sums and rules become words of the table.
+#![tactic(auto)]
+
 ghost use Rattle.std.specs.Prelude.{◌≡◌, ℕ, ◌+◌, ◌-◌, ◌*◌, ◌<◌, ◌≤◌, [], ◌∷◌, ◌++◌, length, take, drop, pos, ◌+ℤ◌, neg_ℤ, slice_set, unsigned_abs};
 ghost use Rattle.lines.specs.Lines.{rows_for};
 ghost use Rattle.rows.specs.Rows.{words, turn, below, negatives, floored, at_least, rule_rows, base_of, front_of, Narrow, NarrowPrice, Appends, Fronts};

@@ -3,6 +3,8 @@
 // A rule is a row of signed coefficients and a degree. The coefficient of a part is positive where the rule's literal
 // is the part, negative where it is the complement, and 0 where the part is in no term. specs/Rule.antt says when a rule
 // is met or broken; specs/Sum.antt has the one sum that all of it is made of, and proofs/Sum.antt its laws.
+#![tactic(auto)]
+
 ghost use Rattle.std.specs.Prelude.{◌≡◌};
 ghost use Rattle.rules.specs.Rule.{kept};
 

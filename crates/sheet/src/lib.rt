@@ -1,4 +1,6 @@
 // Reading a whole sheet into its table.
+#![tactic(auto)]
+
 ghost use Rattle.std.specs.Prelude.{◌≡◌, ℕ, ◌+◌, ◌-◌, ◌<◌, ◌≤◌, length, IfOk};
 ghost use Rattle.text.specs.Reading.{Step};
 ghost use Rattle.lines.specs.Lines.{rows_for};

@@ -3,6 +3,8 @@
 //
 // The rule comes from standard input: coefficients, degree and weights, a tabulator after each. Every literal that weighs
 // something is assumed false, as where a lower price is asked for. A line that begins with `#` is a remark.
+#![tactic(auto)]
+
 mod steps;
 
 use anyhow::anyhow;

@@ -1,4 +1,6 @@
 // The rules of a holder, loaded into an engine, and the question whether some marking meets them all.
+#![tactic(auto)]
+
 ghost use Rattle.std.specs.Prelude.{◌≡◌, ℕ, ◌<◌, ◌≤◌, length, Ok, unsigned_abs};
 ghost use Rattle.rules.specs.Terms.{signed};
 ghost use Rattle.solve.specs.Listed.{listed, Lists};

@@ -1,4 +1,6 @@
 // Where a byte of a text stands: its line, and the part of the line that is shown around it.
+#![tactic(auto)]
+
 ghost use Rattle.std.specs.Prelude.{◌≡◌, ◌+◌, min, length};
 ghost use Rattle.spot.specs.Spot.{Line, Shows};
 

@@ -1,6 +1,8 @@
 // The statement of an audit: what the sheet holds, how each rule fares, the board, its price and the verdict.
 //
 // specs/Statement.antt says which bytes that is, line by line.
+#![tactic(auto)]
+
 ghost use Rattle.std.specs.Prelude.{◌≡◌, ◌<◌, ◌≤◌, IfOk, string_bytes};
 ghost use Rattle.table.specs.Layout.{rules_of};
 ghost use Rattle.board.specs.Board.{choice};

@@ -1,5 +1,7 @@
 // The rules of an engine: what both engines do alike. Rows past the count hold what is left from earlier rules, and say
 // nothing.
+#![tactic(auto)]
+
 ghost use Rattle.std.specs.Prelude.{◌≡◌, ℕ, ◌+◌, ◌<◌, ◌≤◌, min, false, length, is_ok, Decides, Result as Outcome, MatchOption, slice_index_or};
 ghost use Rattle.faults.specs.declared.fault.EngineFault.{EngineFault as Fault};
 ghost use Rattle.rules.specs.Rule.{marked};

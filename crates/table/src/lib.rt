@@ -3,6 +3,8 @@
 // A table has 2,668 words: four that say how much there is, the weights of forty parts, and 64 rows, each a rule's
 // degree and its forty coefficients. specs/Layout.antt says which word is which and what it may hold; specs/Meaning.antt
 // says which choices of parts meet the sheet, and what a choice costs.
+#![tactic(auto)]
+
 ghost use Rattle.std.specs.Prelude.{◌≡◌, ℕ, ◌<◌, length, Decides};
 ghost use Rattle.table.specs.Layout.{place_of, limits_of, Fine, Verdict};
 

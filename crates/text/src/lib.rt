@@ -4,6 +4,8 @@
 // may stand there; the reader returns it, with the bytes that it covers, and stands right behind it. If the bytes are
 // none of that token the fault is `Misplaced` at the token's first byte, and if the text ends before the token is whole
 // it is `Cut` at the text's length.
+#![tactic(auto)]
+
 ghost use Rattle.std.specs.Prelude.{◌≡◌, ℕ, ◌+◌, ◌-◌, ◌<◌, ◌≤◌, min, length, drop, IfOk, Ok, Err, slice_index};
 ghost use Rattle.std.specs.List.{between};
 ghost use Rattle.text.specs.Bytes.{belongs, stands, Run, spelling, decimal, number_of};

@@ -4,6 +4,8 @@
 // literals that are kept, their count, their smallest weight and the gain. A line that begins with `#` is a remark. For each
 // core that comes to anything else a line is printed, and in the end how many there are and how many agree. The program ends
 // with status 1 where some disagree.
+#![tactic(auto)]
+
 mod tally;
 
 use anyhow::anyhow;

@@ -3,6 +3,8 @@
 // The refusals are printed as they come, each with what was called. Then rules over up to six variables are made by chance,
 // always the same ones, and questions with and without assumed literals are asked of the plain engine and of the plain
 // engine asked twice; each answer is held against all markings. The program ends with status 1 where one is wrong.
+#![tactic(auto)]
+
 mod chance;
 mod judge;
 mod refusals;

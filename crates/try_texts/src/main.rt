@@ -3,6 +3,8 @@
 // The list comes from standard input, one text to a line: a name, the text with its escapes, and in words what reading
 // it comes to. A line that begins with `#` is a remark. For each text that comes to anything else a line is printed,
 // and in the end how many there are and how many agree. The program ends with status 1 where some disagree.
+#![tactic(auto)]
+
 mod escape;
 mod list;
 mod outcome;

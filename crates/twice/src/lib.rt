@@ -2,6 +2,8 @@
 //
 // It shows that the meaning of engines is enough to build one upon another: the literals that it keeps for the second round
 // must be those of the open question of the engine inside, which is why engines have `sound`.
+#![tactic(auto)]
+
 ghost use Rattle.std.specs.Prelude.{◌≡◌, ℕ, ◌+◌, Ok, Err};
 ghost use Rattle.std.proofs.Common.{ap, ◌∙◌, rules};
 ghost use Rattle.twice.specs.Rounds.{in_round, Agrees};

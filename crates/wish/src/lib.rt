@@ -1,4 +1,6 @@
 // Reading one rule alone, a wish, against a sheet.
+#![tactic(auto)]
+
 ghost use Rattle.std.specs.Prelude.{◌≡◌, ℕ, ◌-◌, ◌≤◌, Ok, Err};
 ghost use Rattle.text.specs.Reading.{Step};
 ghost use Rattle.opb.specs.Sheets.{End, AloneHere};

@@ -1,4 +1,6 @@
 // Cases that are worked out: readings, and all of them, readings and derivations, in one statement.
+#![tactic(auto)]
+
 ghost use Rattle.worked.specs.Worked.{WorkedReadings};
 ghost use Rattle.worked.specs.Cases.{WorkedCases};
 
