@@ -10,13 +10,13 @@ loop-steps-preserved g c = (
   omega (arith, c.loop-steps-test.true),
   λ s r.
       let old = c.loop-steps.invariant.1 s r in
-      let told = rw c.in-Going.is at (c.in-ok-answer.ensures.stepped old.0) in
+      let told = rw c.in-Going.is at (c.in_ok-answer.ensures.stepped old.0) in
       (c.step.ensures.kept old.0, goes_on _ _ _ _ _ _ _ _ old.1 told),
 )
 
 pub returns : goal.returns
 returns g c =
-    let p = c.in-ok-pose.ensures.posed in
+    let p = c.in_ok-pose.ensures.posed in
     let start = just_posed g.E.Engine.pledge c.args.assumed.now (g.E.RuleHolder.held c.pose.new.self) (g.E.Engine.question c.pose.new.self) p.2 in
     let steps : c.loop-steps.steps ≡ c.args.allowance = omega (arith, c.loop-steps.invariant.0, c.loop-steps-test.false) in
     record {

@@ -13,7 +13,7 @@ returns-in-Yes g c =
     let s = c.args.sheet.now in
     let told = subst (Tells (held_by s.words)) c.in-Yes.is c.in-Ok.ensures.0 in
     let took = subst (λ a. Took g.E.Engine.pledge c.args.allowance a c.in-Ok.field-0.steps) c.in-Yes.is c.in-Ok.ensures.1 in
-    (board_meets s.words s.fine c.in-Yes.marks c.board-of.result.marks c.board-of.ensures told.0 told.1, took.0, took.1)
+    (board_meets s.words s.fine c.in-Yes.marks c.board_of.result.marks c.board_of.ensures told.0 told.1, took.0, took.1)
 
 pub returns-in-No : goal.returns-in-No
 returns-in-No g c =

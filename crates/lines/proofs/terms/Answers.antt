@@ -5,31 +5,31 @@ use Rattle.lines.proofs.Parts.{named_at, terms_stops, terms_goes}
 use Rattle.lines.proofs.Progress.{onward_term}
 use Rattle.lines.proofs.terms.Goals as goal
 
-pub returns-in-err-named : goal.returns-in-err-named
-returns-in-err-named c =
+pub returns-in_err-named : goal.returns-in_err-named
+returns-in_err-named c =
     let fits : SFits w32 c.args.first = c.ranges.first in
-    let named = named_at _ _ _ _ _ _ _ (to_z-of_z w32 _ fits) c.in-err-named.ensures in
-    terms_stops _ _ _ _ c.new-sum.ensures _ _ _ _ named (err_is _ _ c.from-residual.ensures.1)
+    let named = named_at _ _ _ _ _ _ _ (to_z-of_z w32 _ fits) c.in_err-named.ensures in
+    terms_stops _ _ _ _ c.new-sum.ensures _ _ _ _ named (err_is _ _ c.from_residual.ensures.1)
 
-pub returns-in-err-term : goal.returns-in-err-term
-returns-in-err-term c =
+pub returns-in_err-term : goal.returns-in_err-term
+returns-in_err-term c =
     let fits : SFits w32 c.args.first = c.ranges.first in
-    let named = named_at _ _ _ _ _ _ _ (to_z-of_z w32 _ fits) c.in-ok-named.ensures in
+    let named = named_at _ _ _ _ _ _ _ (to_z-of_z w32 _ fits) c.in_ok-named.ensures in
     terms_goes _ _ _ _ c.new-sum.ensures _ _ _ _ _ named
-    (going_stops _ _ _ _ _ _ c.loop-line.invariant _ _ _ (sym c.loop-line-test.ensures) c.in-err-term.ensures (err_is _ _ c.from-residual-in-err-term.ensures.1))
+    (going_stops _ _ _ _ _ _ c.loop-line.invariant _ _ _ (sym c.loop-line-test.ensures) c.in_err-term.ensures (err_is _ _ c.from_residual-in_err-term.ensures.1))
 
 pub loop-line-init : goal.loop-line-init
 loop-line-init c = going_none _ _ _ _
 
 pub loop-line-smaller : goal.loop-line-smaller
 loop-line-smaller c =
-    going_less _ _ _ _ _ _ c.loop-line.invariant _ _ (onward_term _ _ _ c.loop-line.sum _ _ _ c.in-ok-term.ensures.reads) c.in-ok-term.ensures
+    going_less _ _ _ _ _ _ c.loop-line.invariant _ _ (onward_term _ _ _ c.loop-line.sum _ _ _ c.in_ok-term.ensures.reads) c.in_ok-term.ensures
 
 pub loop-line-preserved : goal.loop-line-preserved
-loop-line-preserved c = going_more _ _ _ _ _ _ c.loop-line.invariant _ _ (sym c.loop-line-test.ensures) c.in-ok-term.ensures
+loop-line-preserved c = going_more _ _ _ _ _ _ c.loop-line.invariant _ _ (sym c.loop-line-test.ensures) c.in_ok-term.ensures
 
 pub returns : goal.returns
 returns c =
     let fits : SFits w32 c.args.first = c.ranges.first in
-    let named = named_at _ _ _ _ _ _ _ (to_z-of_z w32 _ fits) c.in-ok-named.ensures in
+    let named = named_at _ _ _ _ _ _ _ (to_z-of_z w32 _ fits) c.in_ok-named.ensures in
     terms_goes _ _ _ _ c.new-sum.ensures _ _ _ _ _ named (going_done _ _ _ _ _ _ c.loop-line.invariant (sym c.loop-line-test.ensures))

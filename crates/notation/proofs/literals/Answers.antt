@@ -10,6 +10,6 @@ loop-part-init c = search rules
 
 pub loop-part-preserved : goal.loop-part-preserved
 loop-part-preserved c =
-    let made : string_bytes c.in-ok-text.text ≡ string_bytes c.loop-part.text ++ (codes " " ++ string_bytes c.in-ok-literal.literal) = c.in-ok-text.ensures.made in
-    made ∙ ap₂ (λ (t l : List ℕ). t ++ (codes " " ++ l)) c.loop-part.invariant (c.in-ok-literal.ensures ∙ ap (λ (b : Bool). literal_text b c.loop-part.part) c.takes.ensures)
+    let made : string_bytes c.in_ok-text.text ≡ string_bytes c.loop-part.text ++ (codes " " ++ string_bytes c.in_ok-literal.literal) = c.in_ok-text.ensures.ok in
+    made ∙ ap₂ (λ (t l : List ℕ). t ++ (codes " " ++ l)) c.loop-part.invariant (c.in_ok-literal.ensures ∙ ap (λ (b : Bool). literal_text b c.loop-part.part) c.takes.ensures)
     ∙ sym (literals_more (choice c.args.board.now.marks) c.loop-part.part)

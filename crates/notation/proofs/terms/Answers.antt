@@ -11,6 +11,6 @@ loop-part-init c = search rules
 pub loop-part-preserved : goal.loop-part-preserved
 loop-part-preserved c =
     let fit : SFits w32 c.coefficient.result = search rules in
-    let made : string_bytes c.in-ok-text.text ≡ with_term (string_bytes c.loop-part.text) c.coefficient.result c.loop-part.part = simp to_z-of_z at c.in-ok-text.ensures in
+    let made : string_bytes c.in_ok-text.text ≡ with_term (string_bytes c.loop-part.text) c.coefficient.result c.loop-part.part = simp to_z-of_z at c.in_ok-text.ensures in
     made ∙ ap₂ (λ (t : List ℕ) (a : ℤ). with_term t a c.loop-part.part) c.loop-part.invariant c.coefficient.ensures.value
     ∙ sym (terms_more c.args.sheet.now.words.now c.args.rule c.loop-part.part)

@@ -5,5 +5,5 @@ use Rattle.refused.proofs.head.Goals as goal
 
 pub returns : goal.returns
 returns c =
-    made_as string_bytes c.format.result (head_lines c.refusal-layer.result c.of-run-words.result.now) (head_text c.args.fault) c.format.ensures.ok
-    (ap₂ head_lines c.refusal-layer.ensures c.of-run-words.ensures)
+    made_as string_bytes c.format.result (head_lines c.refusal-layer.result c.of_run-words.result.now) (head_text c.args.fault) c.format.ensures.ok
+    (ap₂ head_lines c.refusal-layer.ensures c.of_run-words.ensures)

@@ -8,8 +8,8 @@ pub returns-then-index-words : goal.returns-then-index-words
 returns-then-index-words c =
     let words = c.args.words.now in
     let i = c.args.index in
-    made_as string_bytes c.printed.result (map shown_byte c.as-bytes.result.now) (map shown_byte (get_or (map string_bytes words) i [])) c.printed.ensures
-    (ap (map shown_byte) (c.as-bytes.ensures.value ∙ ap string_bytes c.index-words-index.is ∙ sym (get_or-map string_bytes words i c.index-words-index.result [] (omega arith))))
+    made_as string_bytes c.printed.result (map shown_byte c.as_bytes.result.now) (map shown_byte (get_or (map string_bytes words) i [])) c.printed.ensures
+    (ap (map shown_byte) (c.as_bytes.ensures.value ∙ ap string_bytes c.index-words-index.is ∙ sym (get_or-map string_bytes words i c.index-words-index.result [] (omega arith))))
 
 pub returns-else-index-words : goal.returns-else-index-words
 returns-else-index-words c =

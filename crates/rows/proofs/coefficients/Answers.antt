@@ -9,9 +9,9 @@ loop-i-init c = (record { forty = refl; front = refl }, λ h. absurd (omega arit
 
 pub loop-i-preserved : goal.loop-i-preserved
 loop-i-preserved c =
-    let fits : SFits w32 c.unwrap-or.result = search rules in
+    let fits : SFits w32 c.unwrap_or.result = search rules in
     let forty : length c.args.sum.now.terms ≡ 40 = search rules in
-    (copied_more _ _ _ _ None _ c.loop-i-test.true forty c.loop-i.invariant.0 (to_z-of_z w32 _ fits ∙ c.unwrap-or.ensures), λ _. forty)
+    (copied_more _ _ _ _ None _ c.loop-i-test.true forty c.loop-i.invariant.0 (to_z-of_z w32 _ fits ∙ c.unwrap_or.ensures), λ _. forty)
 
 pub returns : goal.returns
 unfolding words

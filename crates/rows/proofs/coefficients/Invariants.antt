@@ -1,5 +1,5 @@
 use Rattle.std.proofs.Common.{◌≡◌, ◌<◌, length}
-use Rattle.rows.specs.Rows.{goal as value}
+use Rattle.rows.specs.Rows.{given as value}
 use Rattle.rows.proofs.Words.{Copied}
 use Rattle.rows.proofs.coefficients.Given as goal
 

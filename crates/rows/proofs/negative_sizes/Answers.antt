@@ -6,16 +6,16 @@ use Rattle.rows.proofs.Words.{negatives_more, below_small}
 use Rattle.rows.proofs.negative_sizes.Goals as goal
 
 -- what one coefficient adds
-added : (c : goal.After-size-below-sum) → c.size-below-sum.result ≡ below (get_or c.args.coefficients.now c.loop-i.i (pos 0))
+added : (c : goal.After-size_below-sum) → c.size_below-sum.result ≡ below (get_or c.args.coefficients.now c.loop-i.i (pos 0))
 added c =
     let fits : SFits w32 (get_or c.args.coefficients.now c.loop-i.i (pos 0)) = search rules in
-    c.size-below-sum.ensures ∙ ap below (to_z-of_z w32 _ fits)
+    c.size_below-sum.ensures ∙ ap below (to_z-of_z w32 _ fits)
 
-at_most : (c : goal.After-size-below-sum) → c.size-below-sum.result ≤ 1000000
+at_most : (c : goal.After-size_below-sum) → c.size_below-sum.result ≤ 1000000
 at_most c = omega (arith, added c, below_small (get_or c.args.coefficients.now c.loop-i.i (pos 0)), c.requires.small c.loop-i.i)
 
-pub overflow-add-sum : goal.overflow-add-sum
-overflow-add-sum c = let m = at_most c in omega arith
+pub overflow_add-sum : goal.overflow_add-sum
+overflow_add-sum c = let m = at_most c in omega arith
 
 pub loop-i-preserved : goal.loop-i-preserved
 loop-i-preserved c =

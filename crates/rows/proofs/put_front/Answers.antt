@@ -14,5 +14,5 @@ none_front T rs n m o a b e h =
     ∙ ap (λ (x : ℤ). table_with (pos n ∷ x ∷ pos 0 ∷ pos 0 ∷ replicate 40 (pos 0)) rs) (widened m b)
     ∙ ap (λ (x : Option Sum). table_with (front_of n m x) rs) (sym e)
 
-pub returns-in-default : goal.returns-in-default
-returns-in-default c = λ rs before. none_front c.args.table.now rs c.args.parts c.args.rows _ (omega arith) (omega arith) c.in-default.is before
+pub returns-in_default : goal.returns-in_default
+returns-in_default c = λ rs before. none_front c.args.table.now rs c.args.parts c.args.rows _ (omega arith) (omega arith) c.in_default.is before

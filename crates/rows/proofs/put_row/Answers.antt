@@ -11,5 +11,5 @@ returns c =
     let b : SFits w32 c.args.bound = c.ranges.bound in
     let l : 44 + 41 * c.args.row < length c.args.table.now = omega arith in
     let value = to_z-of_z w32 c.degree.result d ∙ c.degree.ensures ∙ ap (λ (z : ℤ). pos (floored (z +ℤ pos (negatives c.args.coefficients.now)))) (to_z-of_z w32 c.args.bound b) in
-    let put = row_put c.args.table.now _ c.args.coefficients.now (44 + 41 * c.args.row) _ _ l c.put-words.ensures value in
+    let put = row_put c.args.table.now _ c.args.coefficients.now (44 + 41 * c.args.row) _ _ l c.put_words.ensures value in
     λ front rs head lined rows before. row_laid front rs _ c.args.table.now _ c.args.row head lined rows c.requires.room before put

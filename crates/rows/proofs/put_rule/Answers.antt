@@ -17,8 +17,8 @@ some_row : (k : Comparison) → 1 ≤ rows_for k
 some_row AtLeast = omega arith
 some_row Equal = omega arith
 
-pub put-row-requires : goal.put-row-requires
-put-row-requires c =
+pub put_row-requires : goal.put_row-requires
+put_row-requires c =
     let fits : SFits w32 c.args.rule.now.bound = search rules in
     record {
       whole = c.requires.whole;
@@ -27,8 +27,8 @@ put-row-requires c =
       low = rw (to_z-of_z w32 _ fits) c.requires.low;
     }
 
-pub put-row-requires-in-Equal : goal.put-row-requires-in-Equal
-put-row-requires-in-Equal c = record {
+pub put_row-requires-in-Equal : goal.put_row-requires-in-Equal
+put_row-requires-in-Equal c = record {
   whole = search rules;
   room = omega (arith, c.requires.room, ap rows_for c.in-Equal.is);
   narrow = subst Narrow (sym c.turned-coefficients.ensures) (turn_narrow _ (subst Narrow (sym c.coefficients-coefficients.ensures) c.requires.narrow));
@@ -38,15 +38,15 @@ put-row-requires-in-Equal c = record {
 pub returns-in-AtLeast : goal.returns-in-AtLeast
 returns-in-AtLeast c =
     let fits : SFits w32 c.args.rule.now.bound = search rules in
-    subst (λ (k : Comparison). Appends c.args.row c.args.table.now c.put-row.new.table (rows_by k (words c.args.rule.now.sum) c.args.rule.now.bound))
+    subst (λ (k : Comparison). Appends c.args.row c.args.table.now c.put_row.new.table (rows_by k (words c.args.rule.now.sum) c.args.rule.now.bound))
     (sym c.in-AtLeast.is)
-    (appends_as _ _ _ _ _ _ _ c.coefficients-coefficients.ensures (to_z-of_z w32 _ fits) c.put-row.ensures)
+    (appends_as _ _ _ _ _ _ _ c.coefficients-coefficients.ensures (to_z-of_z w32 _ fits) c.put_row.ensures)
 
 pub returns-in-Equal : goal.returns-in-Equal
 returns-in-Equal c =
     let fits : SFits w32 c.args.rule.now.bound = search rules in
-    subst (λ (k : Comparison). Appends c.args.row c.args.table.now c.put-row-in-Equal.new.table (rows_by k (words c.args.rule.now.sum) c.args.rule.now.bound))
+    subst (λ (k : Comparison). Appends c.args.row c.args.table.now c.put_row-in-Equal.new.table (rows_by k (words c.args.rule.now.sum) c.args.rule.now.bound))
     (sym c.in-Equal.is)
-    (appends_both c.args.row 1 _ c.put-row.new.table _ (at_least (words c.args.rule.now.sum) c.args.rule.now.bound ∷ []) _ (c.requires.narrow.forty, tt) refl
-    (appends_as _ _ _ _ _ _ _ c.coefficients-coefficients.ensures (to_z-of_z w32 _ fits) c.put-row.ensures)
-    (appends_as _ _ _ _ _ _ _ (c.turned-coefficients.ensures ∙ ap turn c.coefficients-coefficients.ensures) (negated c.args.rule.now.bound c.requires.low) c.put-row-in-Equal.ensures))
+    (appends_both c.args.row 1 _ c.put_row.new.table _ (at_least (words c.args.rule.now.sum) c.args.rule.now.bound ∷ []) _ (c.requires.narrow.forty, tt) refl
+    (appends_as _ _ _ _ _ _ _ c.coefficients-coefficients.ensures (to_z-of_z w32 _ fits) c.put_row.ensures)
+    (appends_as _ _ _ _ _ _ _ (c.turned-coefficients.ensures ∙ ap turn c.coefficients-coefficients.ensures) (negated c.args.rule.now.bound c.requires.low) c.put_row-in-Equal.ensures))

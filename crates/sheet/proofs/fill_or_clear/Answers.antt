@@ -1,10 +1,10 @@
 use Rattle.std.proofs.Common.{◌≡◌, ℕ, length, replicate, pos, sym, refl, ap, ◌∙◌, rules}
 use Rattle.sheet.proofs.fill_or_clear.Goals as goal
 
-pub read-text-requires : goal.read-text-requires
-read-text-requires c = c.fill.ensures.after (λ y h. h) ∙ ap (λ (n : ℕ). replicate n (pos 0)) c.requires
+pub read_text-requires : goal.read_text-requires
+read_text-requires c = c.fill.ensures.after (λ y h. h) ∙ ap (λ (n : ℕ). replicate n (pos 0)) c.requires
 
 pub returns-in-Err : goal.returns-in-Err
 returns-in-Err c =
-    let whole : length c.read-text.new.table ≡ 2668 = search rules in
+    let whole : length c.read_text.new.table ≡ 2668 = search rules in
     (c.in-Err.ensures, c.fill-in-Err.ensures.after (λ y h. h) ∙ ap (λ (n : ℕ). replicate n (pos 0)) whole)

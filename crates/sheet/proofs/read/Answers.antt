@@ -6,8 +6,8 @@ use Rattle.sheet.proofs.read.Goals as goal
 pub returns-then-table-ne-WORDS : goal.returns-then-table-ne-WORDS
 returns-then-table-ne-WORDS c = exactly _ _ _ _ (c.if-table-ne-WORDS.true, refl)
 
-pub returns-in-err-fill-or-clear : goal.returns-in-err-fill-or-clear
-returns-in-err-fill-or-clear c = rw (err_is _ _ c.from-residual.ensures.1) (exactly _ _ _ _ (c.if-table-ne-WORDS.false, c.in-err-fill-or-clear.ensures.0, c.in-err-fill-or-clear.ensures.1))
+pub returns-in_err-fill_or_clear : goal.returns-in_err-fill_or_clear
+returns-in_err-fill_or_clear c = rw (err_is _ _ c.from_residual.ensures.1) (exactly _ _ _ _ (c.if-table-ne-WORDS.false, c.in_err-fill_or_clear.ensures.0, c.in_err-fill_or_clear.ensures.1))
 
 pub returns : goal.returns
-returns c = exactly _ _ _ _ (c.if-table-ne-WORDS.false, c.in-ok-fill-or-clear.ensures)
+returns c = exactly _ _ _ _ (c.if-table-ne-WORDS.false, c.in_ok-fill_or_clear.ensures)

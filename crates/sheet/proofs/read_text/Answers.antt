@@ -3,13 +3,13 @@ use Rattle.text.proofs.Steps.{err_is}
 use Rattle.sheet.proofs.Whole.{too_long, header_wrong, whole_read}
 use Rattle.sheet.proofs.read_text.Goals as goal
 
-pub returns-in-err-check-length : goal.returns-in-err-check-length
-returns-in-err-check-length c = too_long _ _ _ _ c.in-err-check-length.ensures (err_is _ _ c.from-residual.ensures.1)
+pub returns-in_err-check_length : goal.returns-in_err-check_length
+returns-in_err-check_length c = too_long _ _ _ _ c.in_err-check_length.ensures (err_is _ _ c.from_residual.ensures.1)
 
-pub returns-in-err-header : goal.returns-in-err-header
-returns-in-err-header c =
-    header_wrong _ c.in-ok-check-length.ensures _ c.new-reader.ensures.0 c.new-reader.ensures.1 _ _ _ _ c.in-err-header.ensures.reads (err_is _ _ c.from-residual-in-err-header.ensures.1)
+pub returns-in_err-header : goal.returns-in_err-header
+returns-in_err-header c =
+    header_wrong _ c.in_ok-check_length.ensures _ c.new-reader.ensures.0 c.new-reader.ensures.1 _ _ _ _ c.in_err-header.ensures.reads (err_is _ _ c.from_residual-in_err-header.ensures.1)
 
 pub returns : goal.returns
 returns c =
-    whole_read _ c.in-ok-check-length.ensures _ c.new-reader.ensures.0 c.new-reader.ensures.1 _ _ _ _ _ c.in-ok-header.ensures.reads c.body.ensures
+    whole_read _ c.in_ok-check_length.ensures _ c.new-reader.ensures.0 c.new-reader.ensures.1 _ _ _ _ _ c.in_ok-header.ensures.reads c.body.ensures

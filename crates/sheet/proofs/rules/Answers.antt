@@ -4,24 +4,24 @@ use Rattle.opb.proofs.Narrow.{rule_narrow}
 use Rattle.sheet.proofs.Turns.{so_far_none, so_far_more, next_goes, next_stops, rule_onward, open_end, rules_break, rules_few, rules_end}
 use Rattle.sheet.proofs.rules.Goals as goal
 
-pub returns-in-err-rule : goal.returns-in-err-rule
-returns-in-err-rule c =
-    rules_break _ _ _ _ _ _ _ _ c.loop-reader.invariant.1 c.loop-reader.invariant.2 _ _ _ _ c.loop-reader-test.true c.in-err-rule.ensures.reads (err_is _ _ c.from-residual.ensures.1)
+pub returns-in_err-rule : goal.returns-in_err-rule
+returns-in_err-rule c =
+    rules_break _ _ _ _ _ _ _ _ c.loop-reader.invariant.1 c.loop-reader.invariant.2 _ _ _ _ c.loop-reader-test.true c.in_err-rule.ensures.reads (err_is _ _ c.from_residual.ensures.1)
 
-pub put-rule-requires : goal.put-rule-requires
-put-rule-requires c =
-    let n = rule_narrow _ _ _ _ _ _ _ c.in-ok-rule.ensures.reads.reads in
+pub put_rule-requires : goal.put_rule-requires
+put_rule-requires c =
+    let n = rule_narrow _ _ _ _ _ _ _ c.in_ok-rule.ensures.reads.reads in
     let s = c.loop-reader.invariant.2 in
-    record { whole = search rules; room = omega (arith, s.room, c.in-ok-rule.ensures.room); narrow = n.0; low = n.1 }
+    record { whole = search rules; room = omega (arith, s.room, c.in_ok-rule.ensures.room); narrow = n.0; low = n.1 }
 
-pub overflow-add-count : goal.overflow-add-count
-overflow-add-count c = let s = c.loop-reader.invariant.2 in omega (arith, s.few, s.room)
+pub overflow_add-count : goal.overflow_add-count
+overflow_add-count c = let s = c.loop-reader.invariant.2 in omega (arith, s.few, s.room)
 
 pub loop-reader-smaller : goal.loop-reader-smaller
 loop-reader-smaller c =
     let s = c.loop-reader.invariant.2 in
-    going_less _ _ _ _ _ _ c.loop-reader.invariant.1 _ _ (rule_onward _ _ _ _ _ _ _ c.in-ok-rule.ensures.reads.reads)
-    (next_goes _ _ _ c.loop-reader.invariant.0 s.count_is s.rows_is _ _ _ c.in-ok-rule.ensures.reads)
+    going_less _ _ _ _ _ _ c.loop-reader.invariant.1 _ _ (rule_onward _ _ _ _ _ _ _ c.in_ok-rule.ensures.reads.reads)
+    (next_goes _ _ _ c.loop-reader.invariant.0 s.count_is s.rows_is _ _ _ c.in_ok-rule.ensures.reads)
 
 pub loop-reader-init : goal.loop-reader-init
 loop-reader-init c = ([], going_none _ _ _ _, so_far_none _)
@@ -29,11 +29,11 @@ loop-reader-init c = ([], going_none _ _ _ _, so_far_none _)
 pub loop-reader-preserved : goal.loop-reader-preserved
 loop-reader-preserved c =
     let s = c.loop-reader.invariant.2 in
-    let n = rule_narrow _ _ _ _ _ _ _ c.in-ok-rule.ensures.reads.reads in (
-      c.loop-reader.invariant.0 ++ c.in-ok-rule.rule ∷ [],
+    let n = rule_narrow _ _ _ _ _ _ _ c.in_ok-rule.ensures.reads.reads in (
+      c.loop-reader.invariant.0 ++ c.in_ok-rule.rule ∷ [],
       going_more _ _ _ _ _ _ c.loop-reader.invariant.1 _ _ (open_end _ _ c.loop-reader-test.true)
-          (next_goes _ _ _ c.loop-reader.invariant.0 s.count_is s.rows_is _ _ _ c.in-ok-rule.ensures.reads),
-      so_far_more _ _ _ _ _ _ c.loop-reader.invariant.0 _ s n.0 c.rows-rows.ensures c.in-ok-rule.ensures.room c.put-rule.ensures,
+          (next_goes _ _ _ c.loop-reader.invariant.0 s.count_is s.rows_is _ _ _ c.in_ok-rule.ensures.reads),
+      so_far_more _ _ _ _ _ _ c.loop-reader.invariant.0 _ s n.0 c.rows-rows.ensures c.in_ok-rule.ensures.room c.put_rule.ensures,
     )
 
 pub returns-then-count-header : goal.returns-then-count-header

@@ -7,19 +7,19 @@ use Rattle.solve.proofs.load.Goals as goal
 
 pub loop-k-init : goal.loop-k-init
 loop-k-init g c =
-    let begun = c.in-ok-begin.ensures.begun in
-    (no_rules_yet _ _ _ begun.1 c.variables.ensures, begun.2, c.in-ok-begin.ensures.sound refl)
+    let begun = c.in_ok-begin.ensures.begun in
+    (no_rules_yet _ _ _ begun.1 c.variables.ensures, begun.2, c.in_ok-begin.ensures.sound refl)
 
 pub loop-k-preserved : goal.loop-k-preserved
 loop-k-preserved g c =
-    let rule = c.in-ok-rule.rule in
-    let ts = c.as-slice.result.now in
-    let lists : Lists rule.coefficients ts = subst (Lists rule.coefficients) (sym c.as-slice.ensures) c.terms-of-terms.ensures in
-    let adds = c.in-default.ensures.adds in (
+    let rule = c.in_ok-rule.rule in
+    let ts = c.as_slice.result.now in
+    let lists : Lists rule.coefficients ts = subst (Lists rule.coefficients) (sym c.as_slice.ensures) c.terms_of-terms.ensures in
+    let adds = c.in_default.ensures.adds in (
       one_more_rule (g.H.RuleHolder.held c.args.holder.now) (g.E.RuleHolder.held c.loop-k.engine) (g.E.RuleHolder.held c.add.new.self) c.loop-k.k rule ts
-          c.loop-k.invariant.0 c.in-ok-rule.ensures.1 lists c.in-default.ensures.added.1,
-      g.met.E.Engine.add_closes c.loop-k.engine c.add.new.self c.in-default.field-0 adds,
-      g.met.E.Engine.add_sound c.loop-k.engine c.add.new.self (Ok c.in-default.field-0) adds c.loop-k.invariant.2,
+          c.loop-k.invariant.0 c.in_ok-rule.ensures.1 lists c.in_default.ensures.added.1,
+      g.met.E.Engine.add_closes c.loop-k.engine c.add.new.self c.in_default.field-0 adds,
+      g.met.E.Engine.add_sound c.loop-k.engine c.add.new.self (Ok c.in_default.field-0) adds c.loop-k.invariant.2,
     )
 
 pub returns : goal.returns
@@ -32,13 +32,13 @@ returns g c =
 
 pub returns-in-Err : goal.returns-in-Err
 returns-in-Err g c =
-    let rule = c.in-ok-rule.rule in
-    let ts = c.as-slice.result.now in
+    let rule = c.in_ok-rule.rule in
+    let ts = c.as_slice.result.now in
     let h = g.H.RuleHolder.held c.args.holder.now in
     let h' = g.E.RuleHolder.held c.loop-k.engine in
     let k = c.loop-k.k in
-    let lists : Lists rule.coefficients ts = subst (Lists rule.coefficients) (sym c.as-slice.ensures) c.terms-of-terms.ensures in
-    let copied = c.in-ok-rule.ensures in
+    let lists : Lists rule.coefficients ts = subst (Lists rule.coefficients) (sym c.as_slice.ensures) c.terms_of-terms.ensures in
+    let copied = c.in_ok-rule.ensures in
     let refused = subst (λ l. NotAdded l h' ts rule.degree c.in-Err.fault) g.met.E.Engine.limits c.in-Err.ensures.added.0 in
     record {
       loads = λ can. not_refused g.H.RuleHolder.limits h h' k rule ts c.loop-k.invariant.0 copied.0 (g.met.H.RuleHolder.room c.args.holder.now) (g.met.H.RuleHolder.fits c.args.holder.now k copied.0) copied.1 lists can c.in-Err.fault refused;

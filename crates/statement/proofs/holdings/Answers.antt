@@ -7,7 +7,7 @@ use Rattle.statement.proofs.holdings.Goals as goal
 pub returns : goal.returns
 returns c =
     let T = c.args.sheet.now.words.now in
-    made_as string_bytes c.format.result (holdings_line c.parts-parts.result c.rules-rules.result c.price-word-line.result.now) (holdings_text T)
+    made_as string_bytes c.format.result (holdings_line c.parts-parts.result c.rules-rules.result c.price_word-line.result.now) (holdings_text T)
     c.format.ensures.ok
-    (ap₂ (λ (p r : ℕ). holdings_line p r c.price-word-line.result.now) c.parts-parts.ensures.value c.rules-rules.ensures.value
-    ∙ ap (holdings_line (parts_of T) (rules_of T)) (c.price-word-line.ensures ∙ ap price_word c.is-priced.ensures))
+    (ap₂ (λ (p r : ℕ). holdings_line p r c.price_word-line.result.now) c.parts-parts.ensures.value c.rules-rules.ensures.value
+    ∙ ap (holdings_line (parts_of T) (rules_of T)) (c.price_word-line.ensures ∙ ap price_word c.is_priced.ensures))

@@ -10,5 +10,5 @@ loop-rule-init c = search rules
 
 pub loop-rule-preserved : goal.loop-rule-preserved
 loop-rule-preserved c =
-    c.in-ok-push-str.ensures.bytes ∙ ap₂ (λ (rows row : List ℕ). rows ++ row) c.loop-rule.invariant (c.as-str.ensures.value ∙ c.in-ok-row.ensures)
+    c.in_ok-push_str.ensures.bytes ∙ ap₂ (λ (rows row : List ℕ). rows ++ row) c.loop-rule.invariant (c.as_str.ensures.value ∙ c.in_ok-row.ensures)
     ∙ sym (rows_more c.args.sheet.now.words.now (choice c.args.board.now.marks) c.loop-rule.rule)

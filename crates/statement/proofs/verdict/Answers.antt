@@ -8,8 +8,8 @@ use Rattle.statement.proofs.verdict.Goals as goal
 
 pub returns-then-broken-eq0 : goal.returns-then-broken-eq0
 returns-then-broken-eq0 c =
-    made_as string_bytes c.from-str.result (codes "the board meets the sheet" ++ newline)
-    (verdict_text c.args.sheet.now.words.now (choice c.args.board.now.marks)) c.from-str.ensures.ok
+    made_as string_bytes c.from_str.result (codes "the board meets the sheet" ++ newline)
+    (verdict_text c.args.sheet.now.words.now (choice c.args.board.now.marks)) c.from_str.ensures.ok
     (ap (λ (b : ℕ). verdict_line b (rules_of c.args.sheet.now.words.now)) (sym c.if-broken-eq0.true ∙ c.broken-broken.ensures))
 
 pub returns-else-broken-eq0 : goal.returns-else-broken-eq0

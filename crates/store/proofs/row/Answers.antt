@@ -7,9 +7,9 @@ use Rattle.store.proofs.row.Goals as goal
 
 pub loop-term-preserved : goal.loop-term-preserved
 loop-term-preserved c =
-    let fit : SFits w32 c.signed-coefficient.result = search rules in (
+    let fit : SFits w32 c.signed_coefficient.result = search rules in (
       simp length-set c.loop-term.invariant.0,
-      row_step c.loop-term.row c.args.terms.now c.loop-term.term-index _ _ c.loop-term-test.true (simp to_z-of_z c.signed-coefficient.ensures) c.loop-term.invariant.1,
+      row_step c.loop-term.row c.args.terms.now c.loop-term.term-index _ _ c.loop-term-test.true (simp to_z-of_z c.signed_coefficient.ensures) c.loop-term.invariant.1,
     )
 
 pub returns : goal.returns

@@ -3,4 +3,4 @@ use Rattle.table.specs.Layout.{Fine}
 use Rattle.table.proofs.check.Goals as goal
 
 pub loop-word-preserved : goal.loop-word-preserved
-loop-word-preserved c = below_more (Fine c.args.table.now) c.loop-word.word c.loop-word.invariant (c.is-fine.ensures.0 c.if-not-is-fine.false)
+loop-word-preserved c = below_more (Fine c.args.table.now) c.loop-word.word c.loop-word.invariant (c.is_fine.ensures.0 c.if-not-is_fine.false)

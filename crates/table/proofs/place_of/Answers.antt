@@ -26,6 +26,6 @@ pub returns-in-0-2 : goal.returns-in-0-2
 unfolding place_of
 returns-in-0-2 c = search rules
 
-pub returns-in-default-2 : goal.returns-in-default-2
+pub returns-in_default-2 : goal.returns-in_default-2
 unfolding place_of
-returns-in-default-2 c = search rules
+returns-in_default-2 c = search rules

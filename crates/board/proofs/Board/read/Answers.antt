@@ -8,7 +8,7 @@ returns-in-Err c = record {
   steps = (
     c.loop-index.board.marks,
     refused_here string_bytes c.args.sheet.now.words.now c.args.words.now c.loop-index.index c.loop-index.board.marks c.loop-index.invariant
-        c.index-words-index.result _ (omega arith) c.index-words-index.is c.as-bytes.ensures.value c.in-Err.trouble _ c.in-Err.ensures,
+        c.index-words-index.result _ (omega arith) c.index-words-index.is c.as_bytes.ensures.value c.in-Err.trouble _ c.in-Err.ensures,
   );
   taken = tt;
 }
@@ -16,7 +16,7 @@ returns-in-Err c = record {
 pub loop-index-preserved : goal.loop-index-preserved
 loop-index-preserved c =
     marks_more string_bytes c.args.sheet.now.words.now c.args.words.now c.loop-index.index c.loop-index.board.marks c.loop-index.invariant
-    c.index-words-index.result _ (omega arith) c.index-words-index.is c.as-bytes.ensures.value _ c.in-Ok.ensures
+    c.index-words-index.result _ (omega arith) c.index-words-index.is c.as_bytes.ensures.value _ c.in-Ok.ensures
 
 pub returns : goal.returns
 returns c =

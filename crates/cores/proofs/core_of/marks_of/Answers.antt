@@ -16,7 +16,7 @@ pub loop-at-preserved-then-literal-lt-WIDTH : goal.loop-at-preserved-then-litera
 loop-at-preserved-then-literal-lt-WIDTH c = (
   omega arith,
   length-set _ _ _ ∙ c.loop-at.invariant.1,
-  marks_set c.args.literals.now c.loop-at.at _ (omega arith) (omega arith) c.loop-at.marks c.loop-at.invariant.1 c.loop-at.invariant.2 (omega arith) _ c.true-mark.ensures,
+  marks_set c.args.literals.now c.loop-at.at _ (omega arith) (omega arith) c.loop-at.marks c.loop-at.invariant.1 c.loop-at.invariant.2 (omega arith) _ c.true_mark.ensures,
 )
 
 pub loop-at-preserved : goal.loop-at-preserved

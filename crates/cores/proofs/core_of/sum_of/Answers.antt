@@ -14,6 +14,6 @@ loop-i-preserved c =
     let a = at c.args.coefficients.now in
     let i = c.loop-i.i in
     let fit : SFits w32 (a i) = search rules in
-    let gives : c.unsigned-abs.result ≡ size (a i) = simp to_z-of_z at c.unsigned-abs.ensures.value in
+    let gives : c.unsigned_abs.result ≡ size (a i) = simp to_z-of_z at c.unsigned_abs.ensures.value in
     let more = total_more (λ i. size (a i)) i in
     (omega arith, omega arith)

@@ -17,9 +17,9 @@ loop-k-preserved c =
     let short : sum_outside 80 (coefficient c.args.rule.now) (flag c.args.members.now) + c.loop-k.sum < c.args.rule.now.degree = omega (arith, c.lowered-degree.ensures) in
     elim c.if-members-variable.branch [
       | then-members-variable w ↦ (
-        omega (arith, w.sum-is, w.from-sum.ensures, w.size-at.type-inv),
+        omega (arith, w.sum-is, w.from-sum.ensures, w.size_at.type_inv),
         omega (arith, w.count-is),
-        λ o. rw (w.sum-is, w.from-sum.ensures, w.size-at.ensures, w.count-is) (walk_takes 80 _ _ _ _ o _ _ _ (c.loop-k.invariant.2 o) (omega arith) w.if-members-variable.true short),
+        λ o. rw (w.sum-is, w.from-sum.ensures, w.size_at.ensures, w.count-is) (walk_takes 80 _ _ _ _ o _ _ _ (c.loop-k.invariant.2 o) (omega arith) w.if-members-variable.true short),
       )
       | else-members-variable w ↦ (
         omega (arith, w.sum-is),

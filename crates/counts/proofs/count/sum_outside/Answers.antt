@@ -17,6 +17,6 @@ loop-i-preserved c =
     let i = c.loop-i.i in
     let more = total_more (λ j. cond (y j) 0 (size (a j))) i in
     elim c.if-not-members-i.branch [
-      | then-not-members-i w ↦ let e : cond (y i) 0 (size (a i)) ≡ size (a i) = ap (λ b. cond b 0 (size (a i))) w.if-not-members-i.true in (omega (arith, w.sum-is, w.from-sum.ensures, w.size-at.ensures), omega (arith, w.sum-is, w.from-sum.ensures, w.size-at.type-inv))
+      | then-not-members-i w ↦ let e : cond (y i) 0 (size (a i)) ≡ size (a i) = ap (λ b. cond b 0 (size (a i))) w.if-not-members-i.true in (omega (arith, w.sum-is, w.from-sum.ensures, w.size_at.ensures), omega (arith, w.sum-is, w.from-sum.ensures, w.size_at.type_inv))
       | else-not-members-i w ↦ let e : cond (y i) 0 (size (a i)) ≡ 0 = ap (λ b. cond b 0 (size (a i))) w.if-not-members-i.false in (omega (arith, w.sum-is), omega (arith, w.sum-is))
     ]

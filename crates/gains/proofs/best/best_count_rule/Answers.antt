@@ -5,4 +5,4 @@ use Rattle.gains.proofs.best.best_count_rule.Goals as goal
 
 pub returns-in-Some : goal.returns-in-Some
 returns-in-Some c =
-    kept c.args.core.now (at c.args.price.now) (omega arith) c.in-Some.round c.in-Some.ensures _ c.count-rule.ensures.rule c.count-rule.ensures.weight
+    kept c.args.core.now (at c.args.price.now) (omega arith) c.in-Some.round c.in-Some.ensures _ c.count_rule.ensures.rule c.count_rule.ensures.weight

@@ -5,8 +5,8 @@ use Rattle.gains.proofs.best.count_rule.Goals as goal
 pub loop-i-preserved : goal.loop-i-preserved
 loop-i-preserved c =
     let lt : c.loop-i.i < length c.loop-i.coefficients = omega arith in
-    let fit : SFits w32 c.unit-at.result = search rules in
-    let is : to_z w32 (of_z w32 c.unit-at.result) ≡ c.unit-at.result = to_z-of_z w32 _ fit in (
+    let fit : SFits w32 c.unit_at.result = search rules in
+    let is : to_z w32 (of_z w32 c.unit_at.result) ≡ c.unit_at.result = to_z-of_z w32 _ fit in (
       length-set _ _ _ ∙ c.loop-i.invariant.0,
-      below_more _ _ (λ j h. let ne : j ≢ c.loop-i.i = omega arith in rw get_or-set_other (c.loop-i.invariant.1 j h)) (rw get_or-set_same (is ∙ c.unit-at.ensures)),
+      below_more _ _ (λ j h. let ne : j ≢ c.loop-i.i = omega arith in rw get_or-set_other (c.loop-i.invariant.1 j h)) (rw get_or-set_same (is ∙ c.unit_at.ensures)),
     )

@@ -5,8 +5,8 @@ use Rattle.reform.proofs.rule.row.Goals as goal
 pub loop-i-preserved : goal.loop-i-preserved
 loop-i-preserved c =
     let lt : c.loop-i.i < length c.loop-i.coefficients = omega arith in
-    let fit : SFits w32 c.coefficient-in.result = search rules in
-    let is : to_z w32 (of_z w32 c.coefficient-in.result) ≡ c.coefficient-in.result = to_z-of_z w32 _ fit in (
+    let fit : SFits w32 c.coefficient_in.result = search rules in
+    let is : to_z w32 (of_z w32 c.coefficient_in.result) ≡ c.coefficient_in.result = to_z-of_z w32 _ fit in (
       length-set _ _ _ ∙ c.loop-i.invariant.0,
-      below_more _ _ (λ j h. let ne : j ≢ c.loop-i.i = omega arith in rw get_or-set_other (c.loop-i.invariant.1 j h)) (rw get_or-set_same (is ∙ c.coefficient-in.ensures)),
+      below_more _ _ (λ j h. let ne : j ≢ c.loop-i.i = omega arith in rw get_or-set_other (c.loop-i.invariant.1 j h)) (rw get_or-set_same (is ∙ c.coefficient_in.ensures)),
     )

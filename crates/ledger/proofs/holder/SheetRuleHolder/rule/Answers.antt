@@ -16,4 +16,4 @@ returns c =
     let k = c.args.k in
     let same = ap rules_of c.checked-table.ensures in
     let there : k < rules_of T = omega (arith, c.rules.ensures.value, c.if-k-rules.false) in
-    (omega (arith, count_held T), c.rule-at.ensures ∙ (ap (λ X. rule_at X k) c.checked-table.ensures ∙ sym (nth_held T k there)))
+    (omega (arith, count_held T), c.rule_at.ensures ∙ (ap (λ X. rule_at X k) c.checked-table.ensures ∙ sym (nth_held T k there)))

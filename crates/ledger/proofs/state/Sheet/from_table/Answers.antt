@@ -7,5 +7,5 @@ pub returns-in-Ok : goal.returns-in-Ok
 returns-in-Ok c =
     let T = c.args.table.now in
     let sound = c.in-Ok.ensures in
-    let same = c.copy-from-slice.ensures.after in
+    let same = c.copy_from_slice.ensures.after in
     (sound, same, subst (λ xs. SameMeaning T (held_by xs)) (sym same) (same_meaning T sound.fine))

@@ -7,19 +7,19 @@ use Rattle.plain.specs.Keeping.{fields}
 use Rattle.plain.specs.Stepping.{ready_start}
 use Rattle.plain.proofs.engine.PlainEngine.pose.Goals as goal
 
-begins : (c : goal.After-start-self) → Ready c.args.self.now.store c.in-ok-assumed.assumed c.start-self.result
+begins : (c : goal.After-start-self) → Ready c.args.self.now.store c.in_ok-assumed.assumed c.start-self.result
 begins c =
-    let taken = c.in-ok-assumed.ensures in
-    ready_start c.args.self.now.store c.in-ok-assumed.assumed c.start-self.result c.args.assumed.now taken.0 taken.1 c.start-self.ensures.free c.start-self.ensures.depth
+    let taken = c.in_ok-assumed.ensures in
+    ready_start c.args.self.now.store c.in_ok-assumed.assumed c.start-self.result c.args.assumed.now taken.0 taken.1 c.start-self.ensures.free c.start-self.ensures.depth
 
-pub invariant-of-self : goal.invariant-of-self
-invariant-of-self c = fields true c.args.self.now.store c.in-ok-assumed.assumed c.start-self.result (λ t. begins c)
+pub invariant_of-self : goal.invariant_of-self
+invariant_of-self c = fields true c.args.self.now.store c.in_ok-assumed.assumed c.start-self.result (λ t. begins c)
 
 pub returns : goal.returns
 returns c =
     let s = c.args.self.now.store in
     let w = c.start-self.result in
-    let taken = c.in-ok-assumed.ensures in
+    let taken = c.in_ok-assumed.ensures in
     let steps = left s.variables (at_walk w) w.depth in
     let within = left_within s.variables (at_walk w) w.depth (omega (arith, c.start-self.ensures.depth)) s.few in
     record {

@@ -3,14 +3,14 @@ use Rattle.plain.specs.Keeping.{fields}
 use Rattle.plain.specs.Stepping.{ready_turned, answered_turned, ready_deeper, answered_deeper, answered_yes, answered_no}
 use Rattle.plain.proofs.engine.PlainEngine.step.Goals as goal
 
-pub invariant-of-self : goal.invariant-of-self
-invariant-of-self c =
+pub invariant_of-self : goal.invariant_of-self
+invariant_of-self c =
     let p = c.args.self.now in
     fields p.asking p.store p.assumed c.turn.new.self
-    (λ t. ready_turned p t c.turn.new.self c.in-Some.t c.if-is-broken.ensures c.in-Some.ensures c.turn.ensures.marks c.turn.ensures.depth)
+    (λ t. ready_turned p t c.turn.new.self c.in-Some.t c.if-is_broken.ensures c.in-Some.ensures c.turn.ensures.marks c.turn.ensures.depth)
 
-pub invariant-of-self-then-self : goal.invariant-of-self-then-self
-invariant-of-self-then-self c =
+pub invariant_of-self-then-self : goal.invariant_of-self-then-self
+invariant_of-self-then-self c =
     let p = c.args.self.now in
     fields p.asking p.store p.assumed c.deepen.new.self
     (λ t. ready_deeper p t c.deepen.new.self c.if-self.true c.deepen.ensures.marks c.deepen.ensures.depth)
@@ -21,16 +21,16 @@ returns-in-Some c =
     let found = c.in-Some.ensures in
     let moved = c.turn.ensures in
     record {
-      stepped = (refl, answered_turned p c.if-not-self.false c.turn.new.self c.in-Some.t c.if-is-broken.ensures found moved.marks moved.depth);
-      walked = inr (record { broken = c.if-is-broken.ensures; at = c.in-Some.t; within = found.0; was = found.1; last = found.2; marks = moved.marks; depth = moved.depth });
+      stepped = (refl, answered_turned p c.if-not-self.false c.turn.new.self c.in-Some.t c.if-is_broken.ensures found moved.marks moved.depth);
+      walked = inr (record { broken = c.if-is_broken.ensures; at = c.in-Some.t; within = found.0; was = found.1; last = found.2; marks = moved.marks; depth = moved.depth });
     }
 
 pub returns-in-None : goal.returns-in-None
 returns-in-None c =
     let p = c.args.self.now in
     record {
-      stepped = (refl, answered_no p c.if-not-self.false (record { coefficients = c.clause-row.result; degree = 1 }) c.clause-row.ensures refl c.if-is-broken.ensures c.in-None.ensures);
-      walked = (c.if-is-broken.ensures, c.in-None.ensures);
+      stepped = (refl, answered_no p c.if-not-self.false (record { coefficients = c.clause_row.result; degree = 1 }) c.clause_row.ensures refl c.if-is_broken.ensures c.in-None.ensures);
+      walked = (c.if-is_broken.ensures, c.in-None.ensures);
     }
 
 pub returns-then-self : goal.returns-then-self
@@ -39,5 +39,5 @@ returns-then-self c =
     let moved = c.deepen.ensures in
     record {
       stepped = (refl, answered_deeper p c.if-not-self.false c.deepen.new.self c.if-self.true moved.marks moved.depth);
-      walked = inl (record { sound = c.if-is-broken.ensures; room = c.if-self.true; marks = moved.marks; depth = moved.depth });
+      walked = inl (record { sound = c.if-is_broken.ensures; room = c.if-self.true; marks = moved.marks; depth = moved.depth });
     }

@@ -2,5 +2,5 @@ use Rattle.std.proofs.Common.{refl, zero-le, arith}
 use Rattle.store.proofs.Distinct.{free_marks}
 use Rattle.store.proofs.assumed.Assumed.nothing.Goals as goal
 
-pub invariant-of-result : goal.invariant-of-result
-invariant-of-result c = (omega arith, (refl, (refl, ((λ v. free_marks 80 v), tt))))
+pub invariant_of-result : goal.invariant_of-result
+invariant_of-result c = record { room = omega arith; whole = refl; wide = refl; agrees = (λ v. free_marks 80 v) }

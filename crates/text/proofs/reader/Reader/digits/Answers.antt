@@ -4,7 +4,7 @@ use Rattle.text.proofs.Runs.{empty}
 use Rattle.text.proofs.reader.Reader.digits.Goals as goal
 
 pub returns-then-self-end : goal.returns-then-self-end
-returns-then-self-end c = record { same = refl; reads = some _ _ c.if-self-end.true c.run-end-end.ensures refl }
+returns-then-self-end c = record { same = refl; reads = some _ _ c.if-self-end.true c.run_end-end.ensures refl }
 
 pub returns-else-self-end : goal.returns-else-self-end
-returns-else-self-end c = record { same = refl; reads = none _ (empty _ _ _ _ c.run-end-end.ensures c.if-self-end.false) c.missing-at.ensures }
+returns-else-self-end c = record { same = refl; reads = none _ (empty _ _ _ _ c.run_end-end.ensures c.if-self-end.false) c.missing_at.ensures }

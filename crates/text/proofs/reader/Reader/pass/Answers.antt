@@ -3,4 +3,4 @@ use Rattle.text.specs.Tokens.{passed}
 use Rattle.text.proofs.reader.Reader.pass.Goals as goal
 
 pub returns : goal.returns
-returns c = record { same = refl; reads = passed _ c.run-end-self.ensures }
+returns c = record { same = refl; reads = passed _ c.run_end-self.ensures }

@@ -26,8 +26,8 @@ returns-in-Ok c = record {
   said = ap Accepted c.of.ensures;
 }
 
-pub returns-then-is-clear : goal.returns-then-is-clear
-returns-then-is-clear c = record {
+pub returns-then-is_clear : goal.returns-then-is_clear
+returns-then-is_clear c = record {
   before = replicate 2668 (negsuc 0);
   after = c.read.new.table;
   answer = Err c.in-Err.fault;
@@ -36,10 +36,10 @@ returns-then-is-clear c = record {
   said = ap Refused c.refusal.ensures;
 }
 
-pub returns-else-is-clear : goal.returns-else-is-clear
-returns-else-is-clear c =
+pub returns-else-is_clear : goal.returns-else-is_clear
+returns-else-is_clear c =
     let all = zeros c.args.text.now (replicate 2668 (negsuc 0)) c.read.new.table c.in-Err.fault (length-replicate 2668 (negsuc 0)) c.in-Err.ensures.came in
-    let says = c.is-clear.ensures.1 (clear c.read.new.table all) in
+    let says = c.is_clear.ensures.1 (clear c.read.new.table all) in
     let z : ◌≡◌ {A = ℕ} 0 1 = cc in
     let no : ⊥ = omega arith in
     absurd no
