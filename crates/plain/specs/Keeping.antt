@@ -29,28 +29,22 @@ ready p t = record {
 
 -- the fields of the state's invariant
 abbrev pub Fields : Bool → Store → Assumed → Walk → Type 0
-Fields asking s a w =
-    (asking ≡ true → w.depth ≤ s.variables)
-    × ((asking ≡ true → (i : ℕ) → i < w.depth → at_walk w i ≢ Free)
-    × ((asking ≡ true → (i : ℕ) → (at_walk w i ≢ Free) → i < w.depth)
-    × ((asking ≡ true → (v : ℕ) → (only (assumed_in a) v ≢ Free) → v < s.variables)
-    × ((asking ≡ true → Exhausted (held_in s) (assumed_in a) (at_walk w) w.depth)
-    × Unit {0}))))
+Fields asking s a w = record {
+  deep : asking ≡ true → w.depth ≤ s.variables;
+  marked : asking ≡ true → (i : ℕ) → i < w.depth → at_walk w i ≢ Free;
+  first : asking ≡ true → (i : ℕ) → (at_walk w i ≢ Free) → i < w.depth;
+  known : asking ≡ true → (v : ℕ) → (only (assumed_in a) v ≢ Free) → v < s.variables;
+  exhausted : asking ≡ true → Exhausted (held_in s) (assumed_in a) (at_walk w) w.depth;
+}
 
 pub fields : (asking : Bool) (s : Store) (a : Assumed) (w : Walk) → (asking ≡ true → Ready s a w) → Fields asking s a w
-fields asking s a w r = (
-  (λ t. (r t).path.deep),
-  (
-    (λ t. (r t).path.marked),
-    (
-      (λ t i h. elim (cases_lt i w.depth) [ inl l ↦ l | inr l ↦ absurd (h ((r t).path.free i l)) ]),
-      (
-        (λ t v h. elim (cases_lt v s.variables) [ inl l ↦ l | inr l ↦ absurd (h ((r t).beyond v l)) ]),
-        ((λ t. (r t).exhausted), tt),
-      ),
-    ),
-  ),
-)
+fields asking s a w r = record {
+  deep = λ t. (r t).path.deep;
+  marked = λ t. (r t).path.marked;
+  first = λ t i h. elim (cases_lt i w.depth) [ inl l ↦ l | inr l ↦ absurd (h ((r t).path.free i l)) ];
+  known = λ t v h. elim (cases_lt v s.variables) [ inl l ↦ l | inr l ↦ absurd (h ((r t).beyond v l)) ];
+  exhausted = λ t. (r t).exhausted;
+}
 
 -- a store that is the same keeps it
 pub ready_same : (p : Plain) (s : Store) → s ≡ p.store → p.asking ≡ true → Ready s p.assumed p.walk

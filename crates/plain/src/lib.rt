@@ -5,7 +5,7 @@
 // and no 0 is left, no marking meets the question, and the answer is the clause of all assumed literals' complements.
 #![tactic(auto)]
 
-pub mod engine;
+pub mod calls;
 pub mod moves;
 pub mod state;
 pub mod walk;

@@ -5,7 +5,7 @@ use Rattle.backtrack.proofs.Left.{left_within}
 use Rattle.plain.specs.Ready.{Ready, at_walk}
 use Rattle.plain.specs.Keeping.{fields}
 use Rattle.plain.specs.Stepping.{ready_start}
-use Rattle.plain.proofs.engine.PlainEngine.pose.Goals as goal
+use Rattle.plain.proofs.calls.PlainEngine.pose.Goals as goal
 
 begins : (c : goal.After-start-self) → Ready c.args.self.now.store c.in_ok-assumed.assumed c.start-self.result
 begins c =

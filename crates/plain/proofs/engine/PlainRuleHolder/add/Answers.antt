@@ -1,9 +1,0 @@
-use Rattle.std.proofs.Common.{◌≡◌, refl, ap, rules}
-use Rattle.plain.specs.Keeping.{fields, ready_same}
-use Rattle.plain.proofs.engine.PlainRuleHolder.add.Goals as goal
-
-pub invariant_of-self-in-Err· : goal.invariant_of-self-in-Err·
-invariant_of-self-in-Err· c = fields c.args.self.now.asking c.add.new.self c.args.self.now.assumed c.args.self.now.walk (ready_same c.args.self.now c.add.new.self (c.in-Err.ensures.refused refl))
-
-pub returns-in-Err : goal.returns-in-Err
-returns-in-Err c = record { added = c.in-Err.ensures.added; adds = record { store = c.in-Err.ensures.refused refl; asking = refl; assumed = refl; walk = refl } }
