@@ -1,12 +1,11 @@
 -- A question runs from step to step.
-use Rattle.std.proofs.Common.{◌≡◌, ℕ, ◌+◌, ◌<◌, ◌≤◌, List, length, Ok, sym, refl, ap, ◌∙◌, subst, arith}
+use Rattle.std.proofs.Common.{◌≡◌, ℕ, ◌+◌, List, length, Ok, sym, refl, ap, ◌∙◌, arith}
 use Rattle.rules.specs.declared.term.Literal.{Literal}
 use Rattle.engine.specs.Held.{Held, Every}
-use Rattle.engine.specs.Questions.{Question, none, posed, GoodLiteral, Opened, Answered, Stepped}
+use Rattle.engine.specs.Questions.{Question, posed, GoodLiteral, Opened, Answered, Stepped}
 use Rattle.engine.specs.declared.answer.Answer.{Answer}
 use Rattle.engine.specs.declared.answer.Answer.TheVariants.{Going}
 use Rattle.ask.specs.Asking.{Running, Reported}
-use Rattle.ask.specs.declared.Asked.{Asked}
 
 -- a question that was just posed
 pub just_posed : (Q : ℕ) (ls : List Literal) (h : Held) (q : Question) → Opened Q ls q → Running Q ls h 0 h q

@@ -1,5 +1,5 @@
 -- How a path ends: broken, with a solution, or with none.
-use Rattle.std.proofs.Common.{◌≡◌, ℕ, zero, suc, ◌+◌, ◌<◌, ◌≤◌, Bool, true, false, cond, ◌⊎◌, List, length, ℤ, pos, negsuc, sym, refl, ap, ◌∙◌, subst, inl, inr, arith}
+use Rattle.std.proofs.Common.{◌≡◌, ℕ, zero, suc, ◌<◌, ◌≤◌, Bool, true, false, ◌⊎◌, List, length, sym, refl, ap, ◌∙◌, inl, inr, arith}
 use borrow.Author.Tests.{clash}
 use Rattle.std.proofs.lemmas.Bool.{cases_eq, cases_lt, cases_Bool}
 use Rattle.rules.specs.Rule.{size, kept, Full}
@@ -11,8 +11,8 @@ use Rattle.rules.specs.declared.term.Literal.{Literal}
 use Rattle.rules.specs.declared.term.Rule.{Rule as Row}
 use Rattle.derive.specs.Derive.{Keeps, Extends}
 use Rattle.derive.proofs.Marks.{marks_refute}
-use Rattle.engine.specs.Held.{Held, Fits, nth, BreaksRule, NoneBroken, MeetsAll}
-use Rattle.engine.specs.Questions.{engine_limits, Solution, Refutation}
+use Rattle.engine.specs.Held.{Held, nth, BreaksRule, NoneBroken}
+use Rattle.engine.specs.Questions.{Solution, Refutation}
 use Rattle.backtrack.specs.Walk.{Path, Dead}
 use Rattle.backtrack.specs.Clause.{refuted, opposed}
 

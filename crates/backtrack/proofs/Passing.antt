@@ -1,5 +1,5 @@
 -- No solution is passed.
-use Rattle.std.proofs.Common.{◌≡◌, ℕ, zero, suc, ◌+◌, ◌<◌, ◌≤◌, Bool, true, false, cond, eqb, ltb, ◌⊎◌, List, sym, refl, ap, ◌∙◌, subst, inl, inr, arith}
+use Rattle.std.proofs.Common.{◌≡◌, ℕ, zero, suc, ◌+◌, ◌<◌, cond, eqb, ◌⊎◌, List, sym, refl, ap, ◌∙◌, subst, inl, inr, arith}
 use Rattle.std.proofs.lemmas.Bool.{eq-eqb, ne_eqb, lt-ltb, le-ltb, cases_eq, cases_lt, cases_order}
 use Rattle.rules.specs.declared.Mark.{Mark}
 use Rattle.rules.specs.declared.Mark.TheVariants.{Free, Zero, One}
@@ -7,7 +7,7 @@ use Rattle.rules.specs.declared.term.Literal.{Literal}
 use Rattle.derive.specs.Derive.{Keeps, Extends}
 use Rattle.engine.specs.Held.{Held}
 use Rattle.engine.specs.Questions.{Solution}
-use Rattle.backtrack.specs.Walk.{Path, deeper, turned, LastZero, NoZero, Before, Exhausted, Dead}
+use Rattle.backtrack.specs.Walk.{Path, deeper, turned, LastZero, NoZero, Exhausted, Dead}
 
 -- ---- marks
 same_or_not : (a b : Mark) → (a ≡ b) ⊎ (a ≡ b → ⊥)

@@ -1,5 +1,5 @@
 -- The clause of the complements of all assumed literals, by the marks that these literals give.
-use Rattle.std.specs.Prelude.{ℕ, Bool, true, false, ℤ, pos, negsuc}
+use Rattle.std.specs.Prelude.{Bool, true, false, ℤ, pos, negsuc}
 use Rattle.rules.specs.declared.Mark.{Mark}
 use Rattle.rules.specs.declared.Mark.TheVariants.{Free, Zero, One}
 

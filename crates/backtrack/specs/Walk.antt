@@ -1,6 +1,6 @@
 -- Backtracking over the variables in their order. The marks p of the first d variables are a path in a binary tree, whose
 -- nodes are passed from left to right: 0 before 1.
-use Rattle.std.specs.Prelude.{◌≡◌, ℕ, suc, ◌+◌, ◌-◌, ◌^◌, ◌<◌, ◌≤◌, Bool, true, false, cond, List, ◌==◌, ◌≢◌, nat_lt}
+use Rattle.std.specs.Prelude.{◌≡◌, ℕ, suc, ◌+◌, ◌-◌, ◌^◌, ◌<◌, ◌≤◌, cond, List, ◌==◌, ◌≢◌, nat_lt}
 use Rattle.rules.specs.Sum.{total}
 use Rattle.rules.specs.declared.Mark.{Mark}
 use Rattle.rules.specs.declared.Mark.TheVariants.{Free, Zero, One}

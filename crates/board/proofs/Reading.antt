@@ -1,9 +1,8 @@
 -- Words that are read one by one.
-use Rattle.std.proofs.Common.{◌≡◌, ℕ, ◌+◌, ◌<◌, ◌≤◌, List, [], ◌∷◌, ◌++◌, map, length, get_or, take, ℤ, Ok, Err, Result, sym, refl, ap, ◌∙◌, subst, arith}
+use Rattle.std.proofs.Common.{◌≡◌, ℕ, ◌+◌, ◌<◌, ◌≤◌, List, [], ◌∷◌, ◌++◌, map, length, get_or, take, ℤ, Ok, Err, sym, refl, ap, ◌∙◌, subst}
 use Rattle.std.proofs.lemmas.List.{take_more, take_all, get_or-map, length-map}
 use Rattle.rules.specs.declared.Mark.{Mark}
 use Rattle.board.specs.Board.{bare, Named, Marks, Refused}
-use Rattle.board.specs.declared.words.Misread.{Misread}
 use Rattle.board.specs.declared.words.Trouble.{Trouble}
 use Rattle.board.specs.declared.words.Trouble.TheVariants.{NotALiteral, NoSuchPart, NamedTwice}
 

@@ -1,13 +1,13 @@
 -- The parts that words take, one word after another.
-use Rattle.std.proofs.Common.{◌≡◌, ℕ, ◌+◌, ◌-◌, ◌<◌, ◌≤◌, Bool, true, false, ◌&&◌, ltb, ◌⊎◌, List, [], ◌∷◌, length, get_or, set, replicate, ℤ, Some, Ok, Decides, sym, refl, ap, ◌∙◌, subst, ap₂, inl, inr, arith}
+use Rattle.std.proofs.Common.{◌≡◌, ℕ, ◌+◌, ◌-◌, ◌<◌, Bool, true, false, ◌&&◌, ◌⊎◌, List, [], ◌∷◌, length, get_or, set, ℤ, Some, Ok, sym, refl, ap, ◌∙◌, subst, ap₂, inl, inr, arith}
 use native.Mathlib.Decide.{ℕ_discrete}
 use Rattle.std.proofs.lemmas.List.{get_or-set_same, get_or-set_other, length-set, length-replicate, get_or-replicate}
 use Rattle.std.proofs.lemmas.Bool.{lt-ltb, both_ways}
 use Rattle.rules.specs.declared.Mark.{Mark}
-use Rattle.rules.specs.declared.Mark.TheVariants.{Free, Zero, One}
+use Rattle.rules.specs.declared.Mark.TheVariants.{Free}
 use Rattle.table.specs.Meaning.{mark}
 use Rattle.board.specs.declared.words.Literal.{Literal}
-use Rattle.board.specs.Literal.{Numeric, number, written, Says}
+use Rattle.board.specs.Literal.{number, written, Says}
 use Rattle.board.specs.Board.{is_one, choice, bare, Named, Marks, taking, SaysTaken, TakesAsSaid}
 
 -- a word says one thing

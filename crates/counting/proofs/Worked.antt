@@ -1,8 +1,8 @@
 -- The coefficients 3, 1, 1, 1.
-use Rattle.std.proofs.Common.{◌≡◌, ℕ, zero, suc, ◌+◌, ◌<◌, ◌≤◌, Bool, true, false, ℤ, pos, negsuc, refl, arith}
+use Rattle.std.proofs.Common.{◌≡◌, ℕ, zero, suc, ◌<◌, ◌≤◌, Bool, true, false, arith}
 use Rattle.rules.specs.Sum.{total}
 use Rattle.rules.specs.Rule.{size}
-use Rattle.counting.specs.Counting.{Reaches, Least, ChosenGreatestFirst, worked_row, WorkedCounts}
+use Rattle.counting.specs.Counting.{ChosenGreatestFirst, worked_row, WorkedCounts}
 use Rattle.counting.proofs.Counting.{greatest_first}
 
 abbrev first_three : ℕ → Bool

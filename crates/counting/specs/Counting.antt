@@ -1,6 +1,6 @@
 -- How many literals of a core must be true. A core is a rule: a row of signed coefficients a over n parts and a degree d. A
 -- set of its literals is given by the parts that they stand on.
-use Rattle.std.specs.Prelude.{◌≡◌, ℕ, zero, suc, ◌+◌, ◌<◌, ◌≤◌, Bool, true, false, cond, List, [], ◌∷◌, ℤ, pos, negsuc}
+use Rattle.std.specs.Prelude.{◌≡◌, ℕ, zero, suc, ◌+◌, ◌<◌, ◌≤◌, Bool, true, false, cond, [], ◌∷◌, ℤ, pos, negsuc}
 use Rattle.rules.specs.Sum.{total}
 use Rattle.rules.specs.Rule.{at, size}
 use Rattle.derive.specs.Derive.{Follows}

@@ -1,6 +1,6 @@
 -- The rounds in which the lightest literals of a core are weakened, and the first round of greatest gain. A core is a row a
 -- over n variables with the degree d, and w are the weights of its literals.
-use Rattle.std.specs.Prelude.{◌≡◌, ℕ, suc, ◌*◌, ◌<◌, ◌≤◌, Bool, ℤ, pos, negsuc, ◌≢◌}
+use Rattle.std.specs.Prelude.{ℕ, suc, ◌*◌, ◌<◌, ◌≤◌, Bool, ℤ, pos, negsuc, ◌≢◌}
 use Rattle.rules.specs.Rule.{size}
 use Rattle.counting.specs.Counting.{Least, CountFollows}
 use Rattle.counting.specs.Gain.{OfCore, Smallest, heavy}

@@ -1,14 +1,14 @@
 -- More marks leave a term less to give.
-use Prim.Native.Nat.{ℕ, zero, suc, ◌+◌, ◌≤◌, ◌<◌}
+use Prim.Native.Nat.{ℕ, ◌+◌, ◌≤◌, ◌<◌}
 use mathlib.Core.Path.{◌≡◌, refl}
 use native.Mathlib.Omega.{arith}
 use lib.IntN.{ℤ, pos, negsuc}
-use Rattle.rules.specs.Rule.{size, kept, Full, open_sum, Met, Broken}
+use Rattle.rules.specs.Rule.{size, kept, open_sum}
 use Rattle.rules.specs.declared.Mark.{Mark}
 use Rattle.rules.specs.declared.Mark.TheVariants.{Free, Zero, One}
 use Rattle.rules.proofs.Sum.{total_le, total_le_but}
 use Rattle.rules.proofs.Rule.{kept_le_size}
-use Rattle.derive.specs.Derive.{Keeps, Extends, Forces, true_mark, MarksRefute, ForcesLiteral}
+use Rattle.derive.specs.Derive.{Keeps, Extends, true_mark, MarksRefute, ForcesLiteral}
 
 pub kept_free : (a : ℤ) → kept a Free ≡ size a
 kept_free (pos c) = refl

@@ -1,7 +1,7 @@
 -- What follows from a rule: a row of signed coefficients a over n parts, with the degree d.
-use Rattle.std.specs.Prelude.{ℕ, suc, ◌+◌, ◌-◌, ◌/◌, ◌≤◌, ◌<◌, ◌≡◌, Bool, cond, List, [], ◌∷◌, ℤ, pos, negsuc}
+use Rattle.std.specs.Prelude.{ℕ, ◌+◌, ◌-◌, ◌/◌, ◌<◌, ◌≡◌, Bool, cond, [], ◌∷◌, ℤ, pos, negsuc}
 use Rattle.rules.specs.Sum.{total}
-use Rattle.rules.specs.Rule.{at, size, kept, Full, open_sum, Met, Broken}
+use Rattle.rules.specs.Rule.{at, size, Full, open_sum, Met, Broken}
 use Rattle.rules.specs.declared.Mark.{Mark}
 use Rattle.rules.specs.declared.Mark.TheVariants.{Free, Zero, One}
 

@@ -1,6 +1,6 @@
 -- What an engine means beyond its rules, the question that is open and how many steps are left for it, and what its calls
 -- do to that.
-use Rattle.std.specs.Prelude.{◌≡◌, ℕ, ◌+◌, ◌^◌, ◌<◌, ◌≤◌, min, ◌⊎◌, List, [], ◌∷◌, length, Ok, Err, Result, ◌≢◌, slice_index_or, slice_set}
+use Rattle.std.specs.Prelude.{◌≡◌, ℕ, ◌+◌, ◌<◌, ◌≤◌, min, List, [], length, Ok, Err, Result, ◌≢◌, slice_index_or, slice_set}
 use Rattle.faults.specs.declared.fault.EngineFault.{EngineFault}
 use Rattle.faults.specs.declared.fault.EngineFault.TheVariants.{Variables, Full, Term, Rule, NoQuestion}
 use Rattle.rules.specs.Rule.{marked, Full as Fully}

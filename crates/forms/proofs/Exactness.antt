@@ -1,5 +1,5 @@
 -- Forms that are put together from exact forms are exact.
-use Rattle.std.proofs.Common.{◌≡◌, ℕ, Bool, true, false, Result, sym, refl, ap, ◌∙◌, subst, arith}
+use Rattle.std.proofs.Common.{◌≡◌, ℕ, Bool, true, false, Result, sym, refl, ◌∙◌, subst, arith}
 use Rattle.forms.specs.Forms.{Outcome, got, bad, Form, Exact, Then, goes, stops, Loop, done, turn, breaks, Branch, taken, left, Just, From, Give, Lifted, well, fault}
 
 pub apart : {X A E : Type 0} (a : A) (i : ℕ) (e : E) → got a i ≡ bad e → X

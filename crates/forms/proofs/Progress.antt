@@ -1,6 +1,6 @@
 -- Forms that are put together go forward, or on, where their parts do.
-use Rattle.std.proofs.Common.{◌≡◌, ℕ, ◌<◌, ◌≤◌, Bool, Ok, Err, Result, arith}
-use Rattle.forms.specs.Forms.{Outcome, got, bad, Form, Then, goes, Loop, done, turn, Branch, taken, left, From, Give, Lifted, well, Forward, Onward}
+use Rattle.std.proofs.Common.{◌≡◌, ℕ, Bool, Ok, Err, Result, arith}
+use Rattle.forms.specs.Forms.{Form, Then, goes, Loop, done, turn, Branch, taken, left, From, Give, Lifted, well, Forward, Onward}
 use Rattle.forms.proofs.Exactness.{apart}
 
 pub onward_then : {A B E : Type 0} (F : Form A E) (G : A → Form B E) → Onward F → ((a : A) → Forward (G a)) → Onward (Then F G)

@@ -10,7 +10,7 @@ use Rattle.lines.specs.declared.line.Line.TheVariants as line
 use Rattle.text.proofs.Exact.{exact_pass, exact_spelt, exact_name, exact_limited, exact_line}
 use Rattle.lines.specs.declared.line.Line.{Line}
 use Rattle.lines.specs.declared.line.Sum.{Sum}
-use Rattle.lines.specs.Lines.{Part, Named, Term, Terms, Announced, HeaderLine, PriceLine, Compared, Fitting, Bound, RuleAfter, empty, limit_of}
+use Rattle.lines.specs.Lines.{Part, Named, Term, Terms, Announced, HeaderLine, PriceLine, Compared, Bound, RuleAfter, empty, limit_of}
 
 exact_part : (text : List ℕ) (n : ℕ) → Exact (Part text n)
 exact_part text n = exact_from _ (λ start. exact_then _ _ (exact_lifted _ _ (exact_name text)) (λ k. exact_give _))

@@ -1,16 +1,15 @@
 -- The lines' forms go on.
 use Rattle.std.proofs.Common.{ℕ, List, ℤ}
-use Rattle.faults.specs.declared.fault.SheetFault.TheVariants.{Text}
-use Rattle.forms.specs.Forms.{Form, Then, Loop, Branch, From, Give, Lifted, Forward, Onward}
+use Rattle.forms.specs.Forms.{Forward, Onward}
 use Rattle.forms.proofs.Progress.{onward_then, onward_after, forward_then, forward_onward, onward_from, forward_from, forward_give, forward_loop, forward_branch, forward_lifted, onward_lifted}
 use Rattle.text.specs.declared.reader.Limit.TheVariants.{RightSide}
 use Rattle.text.specs.declared.reader.Sign.TheVariants.{AtLeast, Equal, End}
-use Rattle.text.specs.Tokens.{Pass, Name, Limited}
-use Rattle.text.proofs.Progress.{forward_pass, onward_name, onward_limited, forward_spelt, forward_gap, forward_line}
+use Rattle.text.specs.Tokens.{Limited}
+use Rattle.text.proofs.Progress.{forward_pass, onward_name, onward_limited, forward_spelt}
 use Rattle.lines.specs.declared.line.Line.{Line}
 use Rattle.lines.specs.declared.line.Line.TheVariants as line
 use Rattle.lines.specs.declared.line.Sum.{Sum}
-use Rattle.lines.specs.Lines.{Blanks, Part, Named, Term, Terms, Compared, Fitting, Bound, RuleAfter, goes_on, limit_of, empty}
+use Rattle.lines.specs.Lines.{Blanks, Part, Named, Term, Terms, Compared, Bound, RuleAfter, empty}
 
 pub forward_blanks : (text : List ℕ) → Forward (Blanks text)
 forward_blanks text = forward_lifted _ _ (forward_pass _ text)

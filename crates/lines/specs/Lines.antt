@@ -1,5 +1,5 @@
 -- The lines of a sheet as forms: sums, the header, the price line and rules.
-use Rattle.std.specs.Prelude.{◌≡◌, ℕ, ◌+◌, ◌-◌, Bool, true, false, cond, not, List, replicate, ℤ, is_some, Some, None, Ok, Err, Option, Result, nat_le, nat_lt, slice_index_or, slice_set, unsigned_abs}
+use Rattle.std.specs.Prelude.{ℕ, ◌-◌, Bool, false, cond, not, List, replicate, ℤ, is_some, Some, None, Ok, Err, Result, nat_le, nat_lt, slice_index_or, slice_set, unsigned_abs}
 use Rattle.faults.specs.declared.fault.TextFault.{TextFault}
 use Rattle.faults.specs.declared.fault.SheetFault.{SheetFault}
 use Rattle.faults.specs.declared.fault.SheetFault.TheVariants.{Text, Unknown, Repeated, NoRoom}

@@ -1,7 +1,7 @@
 -- Every word of a sheet's table is within its limits.
-use Rattle.std.proofs.Common.{◌≡◌, ℕ, zero, suc, ◌+◌, ◌-◌, ◌*◌, ◌/◌, ◌%◌, ◌<◌, ◌≤◌, Bool, true, false, cond, not, ◌&&◌, eqb, ltb, List, [], ◌∷◌, ◌++◌, length, get_or, replicate, ℤ, pos, negsuc, neg_ℤ, nat_abs, ◌≤ℤ◌, Some, None, Option, sym, refl, ap, ◌∙◌, subst, arith, length-append}
+use Rattle.std.proofs.Common.{◌≡◌, ℕ, zero, suc, ◌+◌, ◌-◌, ◌*◌, ◌/◌, ◌%◌, ◌<◌, ◌≤◌, Bool, true, false, not, ◌&&◌, eqb, ltb, List, [], ◌∷◌, ◌++◌, length, get_or, replicate, ℤ, pos, negsuc, neg_ℤ, nat_abs, ◌≤ℤ◌, Some, None, Option, sym, refl, ap, ◌∙◌, subst, arith, length-append}
 use lib.ListN.{length-replicate}
-use Rattle.std.proofs.lemmas.List.{get_or-append_right, get_or_past, get_or-replicate}
+use Rattle.std.proofs.lemmas.List.{get_or-append_right, get_or-replicate}
 use Rattle.std.proofs.lemmas.Int.{ints}
 use Rattle.table.specs.declared.place.Place.{Place}
 use Rattle.table.specs.declared.place.Place.TheVariants.{Parts, Rules, Base, Priced, Weight, Degree, Coefficient}
@@ -9,15 +9,15 @@ use Rattle.table.specs.Layout.{word, parts_of, rules_of, declared, stated, price
 use Rattle.table.proofs.Places.{place_parts, place_rules, place_base, place_priced, place_weight, place_degree, place_coefficient}
 use Rattle.lines.specs.declared.line.Header.{Header}
 use Rattle.lines.specs.declared.line.Sum.{Sum}
-use Rattle.rows.specs.Rows.{Row, row_words, laid, table_with, Lined, Narrow, NarrowPrice, words, negatives, all_rows, front_of, base_of}
+use Rattle.rows.specs.Rows.{Row, laid, table_with, Lined, NarrowPrice, words, negatives, all_rows, front_of}
 use Rattle.rows.proofs.Laid.{laid_length}
-use Rattle.opb.specs.Language.{Language, HeaderAt}
+use Rattle.opb.specs.Language.{Language}
 use Rattle.opb.specs.Sheets.{Written, table_of}
 use Rattle.opb.proofs.Narrow.{said_narrow}
 use Rattle.opb.proofs.Whole.{language_complete}
 use Rattle.meaning.specs.Means.{TableSound}
-use Rattle.meaning.proofs.Sound.{Slim, Fit, AllFit, rules_fit, PriceSlim, price_slim, parts_fit, negatives_most}
-use Rattle.meaning.proofs.Tables.{nth, blank, behind, within, rules_count, weight_words, weight_word, front_length, front_count, all_lined}
+use Rattle.meaning.proofs.Sound.{Fit, AllFit, rules_fit, PriceSlim, price_slim, parts_fit, negatives_most}
+use Rattle.meaning.proofs.Tables.{nth, behind, within, rules_count, weight_words, weight_word, front_length, front_count, all_lined}
 
 -- a word that is used, or 0
 used_fits : (b : Bool) (lo hi v : ℤ) → lo ≤ℤ v → v ≤ℤ hi → (b ≡ false → v ≡ pos 0) → Within (used b (range lo hi)) v

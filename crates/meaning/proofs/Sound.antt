@@ -1,16 +1,15 @@
 -- The table of a sheet has the layout of a table.
-use Rattle.std.proofs.Common.{◌≡◌, ℕ, zero, suc, ◌+◌, ◌-◌, ◌*◌, ◌/◌, ◌%◌, ◌<◌, ◌≤◌, Bool, true, false, cond, not, ◌&&◌, eqb, ltb, List, [], ◌∷◌, ◌++◌, map, length, get_or, set, replicate, ℤ, pos, negsuc, ◌+ℤ◌, neg_ℤ, nat_abs, ◌≤ℤ◌, Some, None, Option, sym, refl, ap, ◌∙◌, subst, mul-suc, arith, length-set}
+use Rattle.std.proofs.Common.{◌≡◌, ℕ, zero, suc, ◌+◌, ◌-◌, ◌*◌, ◌≤◌, List, [], ◌∷◌, ◌++◌, map, length, get_or, set, replicate, ℤ, pos, negsuc, ◌+ℤ◌, neg_ℤ, nat_abs, Some, None, Option, refl, ap, ◌∙◌, mul-suc, arith, length-set}
 use Rattle.std.proofs.lemmas.Int.{ints}
 use Rattle.text.specs.declared.reader.Limit.{Limit}
 use Rattle.text.specs.declared.reader.Limit.TheVariants as limit
-use Rattle.text.specs.Tokens.{low, high}
 use Rattle.lines.specs.declared.line.Comparison.{Comparison}
 use Rattle.lines.specs.declared.line.Comparison.TheVariants.{AtLeast, Equal}
 use Rattle.lines.specs.declared.line.Rule.{Rule}
 use Rattle.lines.specs.declared.line.Sum.{Sum}
-use Rattle.lines.specs.Lines.{empty, put, names}
+use Rattle.lines.specs.Lines.{empty, put}
 use Rattle.rows.specs.Rows.{given, words, turn, below, negatives, floored, Row, at_least, rows_by, rule_rows, all_rows}
-use Rattle.opb.specs.Language.{NumberAt, PairAt, PairsAt, none, more, SumAt, PriceAt, absent, present, RuleAt, RulesAt, ended, rule}
+use Rattle.opb.specs.Language.{NumberAt, PairsAt, none, more, SumAt, PriceAt, absent, present, RulesAt, ended, rule}
 
 -- every number of the list is at most m in size, and those from place n on are 0
 pub record Slim (m n : ℕ) (cs : List ℤ) : Type 0 where

@@ -2,11 +2,10 @@
 use Rattle.std.proofs.Common.{◌≡◌, ℕ, zero, suc, ◌+◌, ◌-◌, ◌*◌, ◌<◌, ◌≤◌, Bool, true, false, List, [], ◌∷◌, ◌++◌, length, get_or, replicate, ℤ, pos, ◌+ℤ◌, neg_ℤ, nat_abs, Some, None, Option, sym, refl, ap, ◌∙◌, subst, append_assoc, arith}
 use Rattle.std.proofs.lemmas.List.{get_or_append_left, get_or-append-add, get_or-replicate}
 use Rattle.std.proofs.lemmas.Int.{ints}
-use Rattle.rules.specs.Sum.{total}
 use Rattle.rules.specs.Rule.{kept}
 use Rattle.rules.proofs.Sum.{total_same, total_none}
-use Rattle.table.specs.Layout.{word, rules_of, base, weight, degree, coefficient}
-use Rattle.table.specs.Meaning.{mark, chosen, reached, Meets, weights, price}
+use Rattle.table.specs.Layout.{rules_of, degree}
+use Rattle.table.specs.Meaning.{mark, reached, Meets, weights, price}
 use Rattle.lines.specs.declared.line.Comparison.{Comparison}
 use Rattle.lines.specs.declared.line.Comparison.TheVariants.{AtLeast, Equal}
 use Rattle.lines.specs.declared.line.Rule.{Rule}
@@ -15,7 +14,7 @@ use Rattle.rows.specs.Rows.{Row, row_words, laid, table_with, Lined, Narrow, Nar
 use Rattle.rows.proofs.Laid.{turn_narrow, lined_append}
 use Rattle.opb.specs.Sheets.{Written, Says, table_of}
 use Rattle.opb.proofs.Narrow.{AllNarrow, said_narrow}
-use Rattle.meaning.specs.Means.{value, Compares, TrueFor, AllTrue, cost, Means, TableMeans}
+use Rattle.meaning.specs.Means.{value, Compares, TrueFor, AllTrue, cost, TableMeans}
 use Rattle.meaning.proofs.Balance.{worth, worth_words, reach, balance, RowMet, RowsMet, rule_there, rule_back}
 
 -- the row of an index

@@ -1,5 +1,5 @@
 -- A text that is made of others, and the same text as it is meant.
-use Rattle.std.proofs.Common.{◌≡◌, ℕ, ◌+◌, Bool, List, [], ◌∷◌, ◌++◌, length, ℤ, IfOk, Ok, Err, codes, decimal, Result, refl, ap, ◌∙◌, add-one}
+use Rattle.std.proofs.Common.{◌≡◌, ℕ, ◌+◌, Bool, List, [], ◌∷◌, ◌++◌, length, ℤ, IfOk, Ok, Err, codes, decimal, Result, refl, ◌∙◌, add-one}
 use Rattle.table.specs.Layout.{coefficient}
 use Rattle.notation.specs.Text.{literal_text, with_term, terms_text, rule_line, literals_text}
 

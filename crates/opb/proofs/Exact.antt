@@ -1,26 +1,13 @@
 -- A text comes to one outcome only.
-use Rattle.std.proofs.Common.{◌≡◌, ℕ, ◌≤◌, Bool, true, false, cond, List, [], length, replicate, ℤ, pos, Some, None, Ok, Err, Option, Result, sym, refl, ap, ◌∙◌, subst, arith}
-use lib.ListN.{length-replicate, replicate-append-replicate}
-use Rattle.faults.specs.declared.fault.RunFault.{RunFault}
-use Rattle.faults.specs.declared.fault.RunFault.TheVariants as run
-use Rattle.faults.specs.declared.fault.TextFault.{TextFault}
+use Rattle.std.proofs.Common.{◌≡◌, ℕ, List, []}
 use Rattle.faults.specs.declared.fault.SheetFault.{SheetFault}
-use Rattle.faults.specs.declared.fault.SheetFault.TheVariants.{Text}
-use Rattle.forms.specs.Forms.{Outcome, got, bad, outcome, Exact, Then, goes, stops, Branch, taken, left, Give, Lifted, well, fault}
+use Rattle.forms.specs.Forms.{Exact}
 use Rattle.forms.proofs.Exactness.{apart, exact_then, exact_loop, exact_branch, exact_from, exact_just, exact_give, exact_lifted}
 use Rattle.text.specs.declared.reader.Limit.TheVariants.{Coefficient}
-use Rattle.text.specs.declared.reader.Reader.{Reader}
-use Rattle.text.specs.Reading.{Step}
-use Rattle.text.specs.Tokens.{short, Gap}
 use Rattle.text.proofs.Exact.{exact_pass, exact_limited, exact_gap}
-use Rattle.text.proofs.Steps.{step_goes, step_stops, step_give, step_well, step_fault}
 use Rattle.lines.specs.declared.line.Header.{Header}
-use Rattle.lines.specs.declared.line.Rule.{Rule}
-use Rattle.lines.specs.declared.line.Sum.{Sum}
-use Rattle.lines.specs.Lines.{HeaderLine}
 use Rattle.lines.proofs.Exact.{exact_header, exact_price, exact_rule}
-use Rattle.rows.specs.Rows.{laid, table_with, front_of, all_rows, NarrowPrice, Fronts}
-use Rattle.opb.specs.Sheets.{Written, Price, RuleLine, NextRule, Rules, Body, Whole, unended, rows_of, Says, Refused, table_of, Alone}
+use Rattle.opb.specs.Sheets.{Written, Price, RuleLine, NextRule, Rules, Whole, unended, Says, Refused, Alone}
 
 exact_rule_line : (text : List ℕ) (h : Header) (count rows : ℕ) → Exact (RuleLine text h count rows)
 exact_rule_line text h count rows =

@@ -1,24 +1,20 @@
 -- The header, the price line and rules as the reader's forms have them, and as the language has them, are the same.
-use Rattle.std.proofs.Common.{◌≡◌, ℕ, ◌+◌, ◌-◌, ◌<◌, ◌≤◌, Bool, true, false, cond, not, leb, List, [], ◌∷◌, length, ℤ, nat_abs, Some, None, Ok, Err, Option, Result, sym, refl, ap, ◌∙◌, subst, arith}
-use Rattle.faults.specs.declared.fault.TextFault.{TextFault}
+use Rattle.std.proofs.Common.{◌≡◌, ℕ, ◌+◌, ◌≤◌, Bool, true, false, cond, not, leb, List, [], ◌∷◌, ℤ, nat_abs, Some, None, Ok, Err, Option, Result, sym, refl, ap, ◌∙◌, subst, arith}
 use Rattle.faults.specs.declared.fault.SheetFault.{SheetFault}
 use Rattle.faults.specs.declared.fault.SheetFault.TheVariants.{Text, NoRoom}
-use Rattle.forms.specs.Forms.{Outcome, got, bad, outcome, Then, goes, Branch, taken, left, From, Give, Lifted, well}
-use Rattle.forms.proofs.Exactness.{apart, both}
-use Rattle.text.specs.declared.reader.Class.TheVariants.{Blank, Inline}
-use Rattle.text.specs.declared.reader.Limit.{Limit}
+use Rattle.forms.specs.Forms.{Outcome, got, outcome, Then, goes, taken, left, Give, Lifted, well}
+use Rattle.forms.proofs.Exactness.{apart}
 use Rattle.text.specs.declared.reader.Limit.TheVariants as limit
-use Rattle.text.specs.declared.reader.Sign.{Sign}
 use Rattle.text.specs.declared.reader.Sign.TheVariants as sign
-use Rattle.text.specs.Bytes.{stands, Run, spelling}
-use Rattle.text.specs.Tokens.{passed, Limited, Spelt, Byte, Gap, Line}
+use Rattle.text.specs.Bytes.{stands}
+use Rattle.text.specs.Tokens.{passed}
 use Rattle.lines.specs.declared.line.Comparison.{Comparison}
 use Rattle.lines.specs.declared.line.Comparison.TheVariants.{AtLeast, Equal}
 use Rattle.lines.specs.declared.line.Header.{Header}
 use Rattle.lines.specs.declared.line.Line.TheVariants as line
 use Rattle.lines.specs.declared.line.Rule.{Rule}
 use Rattle.lines.specs.declared.line.Sum.{Sum}
-use Rattle.lines.specs.Lines.{goes_on, Terms, Announced, HeaderLine, PriceLine, Compared, rows_for, fitting, Fitting, Bound, RuleAfter}
+use Rattle.lines.specs.Lines.{goes_on, HeaderLine, Compared, rows_for, fitting, Fitting, RuleAfter}
 use Rattle.opb.specs.Language.{SpeltAt, NumberAt, GapAt, SumAt, HeaderAt, PriceAt, absent, present, ComparedAt, at_least, equal, RuleAt}
 use Rattle.opb.specs.Sheets.{Price}
 use Rattle.opb.proofs.Narrow.{same_give}

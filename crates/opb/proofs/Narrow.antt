@@ -1,10 +1,10 @@
 -- What was read is small: forty coefficients of at most a million in size, and right sides of at most a hundred million.
-use Rattle.std.proofs.Common.{◌≡◌, ℕ, zero, suc, ◌-◌, ◌<◌, ◌≤◌, Bool, true, false, cond, ltb, List, [], ◌∷◌, ◌++◌, map, length, get_or, set, replicate, ℤ, pos, negsuc, nat_abs, Some, None, Ok, Err, Option, Result, sym, refl, ap, ◌∙◌, subst, arith, length-set}
+use Rattle.std.proofs.Common.{◌≡◌, ℕ, zero, suc, ◌-◌, ◌≤◌, Bool, true, false, cond, ltb, List, [], ◌∷◌, ◌++◌, map, length, get_or, set, replicate, ℤ, pos, nat_abs, Some, None, Ok, Err, Option, refl, ap, ◌∙◌, subst, arith, length-set}
 use lib.Signed.{le_z}
 use Rattle.std.proofs.lemmas.Int.{ints}
 use Rattle.faults.specs.declared.fault.SheetFault.{SheetFault}
 use Rattle.faults.specs.declared.fault.SheetFault.TheVariants.{Text, Repeated, Count}
-use Rattle.forms.specs.Forms.{Outcome, got, bad, outcome, Then, goes, Loop, done, turn, Branch, taken, left, From, Give, Lifted, well}
+use Rattle.forms.specs.Forms.{Outcome, got, outcome, Then, goes, Loop, done, turn, taken, left, Give, Lifted, well}
 use Rattle.forms.proofs.Exactness.{apart}
 use Rattle.text.specs.declared.reader.Limit.{Limit}
 use Rattle.text.specs.declared.reader.Limit.TheVariants as limit

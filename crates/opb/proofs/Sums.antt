@@ -1,27 +1,20 @@
 -- Sums and lines as the reader's forms have them, and as the language has them, are the same.
-use Rattle.std.proofs.Common.{◌≡◌, ℕ, zero, suc, ◌+◌, ◌-◌, ◌<◌, ◌≤◌, Bool, true, false, cond, not, leb, List, [], ◌∷◌, length, get_or, replicate, ℤ, nat_abs, is_some, Some, None, Ok, Err, Option, Result, sym, refl, ap, ◌∙◌, subst, arith}
+use Rattle.std.proofs.Common.{◌≡◌, ℕ, zero, suc, ◌-◌, Bool, true, false, cond, not, List, get_or, replicate, ℤ, is_some, None, Ok, Err, Option, sym, refl, ap, ◌∙◌, subst, arith}
 use Rattle.faults.specs.declared.fault.SheetFault.{SheetFault}
-use Rattle.faults.specs.declared.fault.SheetFault.TheVariants.{Text, Repeated, NoRoom}
-use Rattle.forms.specs.Forms.{Outcome, got, bad, outcome, Then, goes, Loop, done, turn, Branch, taken, left, From, Give, Lifted, well}
+use Rattle.faults.specs.declared.fault.SheetFault.TheVariants.{Repeated}
+use Rattle.forms.specs.Forms.{Outcome, got, outcome, Then, goes, Loop, done, turn, Give, well}
 use Rattle.forms.proofs.Exactness.{apart}
 use Rattle.text.specs.declared.reader.Limit.{Limit}
-use Rattle.text.specs.declared.reader.Limit.TheVariants as limit
-use Rattle.text.specs.declared.reader.Sign.TheVariants as sign
-use Rattle.text.specs.declared.reader.Class.TheVariants.{Blank, Inline}
-use Rattle.text.specs.Bytes.{stands, Run}
-use Rattle.text.specs.Tokens.{passed, Limited, Spelt, Gap}
-use Rattle.lines.specs.declared.line.Comparison.{Comparison}
-use Rattle.lines.specs.declared.line.Comparison.TheVariants.{AtLeast, Equal}
-use Rattle.lines.specs.declared.line.Header.{Header}
+use Rattle.text.specs.declared.reader.Class.TheVariants.{Blank}
+use Rattle.text.specs.Bytes.{Run}
+use Rattle.text.specs.Tokens.{passed}
 use Rattle.lines.specs.declared.line.Line.{Line}
 use Rattle.lines.specs.declared.line.Line.TheVariants as line
-use Rattle.lines.specs.declared.line.Rule.{Rule}
 use Rattle.lines.specs.declared.line.Sum.{Sum}
-use Rattle.lines.specs.Lines.{empty, put, names, placed, Part, Named, limit_of, goes_on, Term, Terms, Announced, HeaderLine, PriceLine, Compared, rows_for, fitting, Fitting, Bound, RuleAfter}
-use Rattle.opb.specs.Language.{SpeltAt, NumberAt, NameAt, GapAt, PairAt, PairsAt, none, more, SumAt, HeaderAt, PriceAt, absent, present, ComparedAt, at_least, equal, RuleAt}
-use Rattle.opb.specs.Sheets.{Price}
+use Rattle.lines.specs.Lines.{empty, put, names, placed, Part, Named, limit_of, goes_on, Term, Terms}
+use Rattle.opb.specs.Language.{NumberAt, NameAt, PairsAt, none, more, SumAt}
 use Rattle.opb.proofs.Narrow.{same_give}
-use Rattle.opb.proofs.Tokens.{spelt_sound, spelt_complete, spelt_first, number_sound, number_complete, number_not, name_sound, name_complete, byte_sound, byte_complete, gap_sound, gap_complete}
+use Rattle.opb.proofs.Tokens.{number_sound, number_complete, number_not, name_sound, name_complete}
 
 -- pairs
 placed_is : (s q : Sum) (start k mid to : ℕ) (a : ℤ) → ◌≡◌ {A = Outcome Sum SheetFault} (got q to) (outcome (placed s start a k) mid) → (names s k ≡ false) × (put s k a ≡ q) × (mid ≡ to)

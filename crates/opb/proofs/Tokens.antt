@@ -1,5 +1,5 @@
 -- Tokens as the reader's forms have them, and as the language has them, are the same.
-use Rattle.std.proofs.Common.{◌≡◌, ℕ, suc, ◌+◌, ◌-◌, ◌<◌, ◌≤◌, Bool, true, false, cond, eqb, ltb, leb, List, [], ◌∷◌, length, get_or, ℤ, pos, ◌≤ℤ◌, Ok, Err, Result, sym, refl, ap, ◌∙◌, subst, arith}
+use Rattle.std.proofs.Common.{◌≡◌, ℕ, ◌+◌, ◌<◌, ◌≤◌, Bool, true, false, cond, ltb, leb, List, [], ◌∷◌, length, get_or, ℤ, ◌≤ℤ◌, Ok, Err, Result, sym, refl, ap, ◌∙◌, subst, arith}
 use lib.Signed.{le_z}
 use Rattle.std.proofs.lemmas.Int.{ints}
 use Rattle.std.proofs.lemmas.List.Edits.{between_none}
@@ -8,19 +8,18 @@ use Rattle.faults.specs.declared.fault.TextFault.{TextFault}
 use Rattle.faults.specs.declared.fault.TextFault.TheVariants.{Beyond}
 use Rattle.faults.specs.declared.fault.SheetFault.{SheetFault}
 use Rattle.faults.specs.declared.fault.SheetFault.TheVariants.{Text, Unknown}
-use Rattle.forms.specs.Forms.{Outcome, got, bad, outcome, Form, Then, goes, stops, Loop, done, turn, Just, From, Give, Lifted, well}
-use Rattle.forms.proofs.Exactness.{apart, both}
-use Rattle.text.specs.declared.reader.Class.TheVariants.{Digit, Blank, Inline}
+use Rattle.forms.specs.Forms.{Outcome, got, bad, outcome, Then, goes, Loop, done, turn, Give, Lifted, well}
+use Rattle.forms.proofs.Exactness.{apart}
+use Rattle.text.specs.declared.reader.Class.TheVariants.{Digit, Blank}
 use Rattle.text.specs.declared.reader.Limit.{Limit}
 use Rattle.text.specs.declared.reader.Sign.{Sign}
 use Rattle.text.specs.declared.reader.Sign.TheVariants as sign
-use Rattle.text.specs.Bytes.{belongs, sees, stands, Run, spelling, decimal, signed}
-use Rattle.text.specs.Tokens.{missing, Pass, passed, byte, Byte, Bytes, whole, here, wrong, Spelt, Digits, some, none, minus, Minus, Number, Name, low, high, limited, Limited, Comment, Gap, Line}
+use Rattle.text.specs.Bytes.{belongs, sees, stands, Run, spelling, signed}
+use Rattle.text.specs.Tokens.{missing, passed, Byte, Bytes, whole, here, Spelt, Digits, some, minus, Minus, Number, Name, low, high, limited, Limited, Comment, Gap}
 use Rattle.text.proofs.Shown.{between_cons, stands_is, stands_within}
 use Rattle.lines.specs.Lines.{known, Part}
 use Rattle.lines.proofs.Parts.{number_within}
 use Rattle.opb.specs.Language.{SpeltAt, SignAt, unsigned, plus, negative, DigitsAt, NumberAt, NameAt, GapAt, blanks, comment}
-use Rattle.opb.proofs.Narrow.{same_give}
 
 -- fixed spellings
 bytes_sound : (text : List ℕ) (start : ℕ) (bs : List ℕ) (from to : ℕ) → from ≤ length text → Bytes text start bs from (got tt to) → (to ≡ from + length bs) × (to ≤ length text) × (between from to text ≡ bs)

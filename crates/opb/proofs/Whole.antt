@@ -1,10 +1,10 @@
 -- The text says a sheet exactly when it writes it in the language.
-use Rattle.std.proofs.Common.{◌≡◌, ℕ, suc, ◌+◌, ◌-◌, ◌<◌, ◌≤◌, Bool, true, false, cond, ltb, leb, List, [], ◌∷◌, ◌++◌, length, ℤ, Ok, Err, Option, Result, sym, refl, ap, ◌∙◌, subst, append_assoc, append-nil, arith, length-append}
+use Rattle.std.proofs.Common.{◌≡◌, ℕ, ◌+◌, ◌-◌, ◌<◌, ◌≤◌, Bool, true, false, cond, ltb, leb, List, [], ◌∷◌, ◌++◌, length, ℤ, Ok, Err, Result, sym, refl, ap, ◌∙◌, subst, append_assoc, append-nil, arith, length-append}
 use Rattle.faults.specs.declared.fault.TextFault.{TextFault}
 use Rattle.faults.specs.declared.fault.TextFault.TheVariants.{TooLong, Misplaced}
 use Rattle.faults.specs.declared.fault.SheetFault.{SheetFault}
 use Rattle.faults.specs.declared.fault.SheetFault.TheVariants.{Text, Count}
-use Rattle.forms.specs.Forms.{Outcome, got, bad, outcome, Then, goes, Loop, done, turn, From, Give, Lifted, well}
+use Rattle.forms.specs.Forms.{Outcome, got, outcome, Then, goes, Loop, done, turn, Give, Lifted, well}
 use Rattle.forms.proofs.Exactness.{apart}
 use Rattle.text.specs.declared.reader.Limit.TheVariants as limit
 use Rattle.text.specs.Tokens.{short, passed, Limited, Gap}
@@ -12,7 +12,6 @@ use Rattle.lines.specs.declared.line.Comparison.{Comparison}
 use Rattle.lines.specs.declared.line.Comparison.TheVariants.{AtLeast, Equal}
 use Rattle.lines.specs.declared.line.Header.{Header}
 use Rattle.lines.specs.declared.line.Rule.{Rule}
-use Rattle.lines.specs.declared.line.Sum.{Sum}
 use Rattle.lines.specs.Lines.{rows_for, RuleAfter, HeaderLine}
 use Rattle.rows.specs.Rows.{Row, all_rows, rule_rows, rows_by, words}
 use Rattle.text.specs.declared.reader.Class.TheVariants.{Blank}

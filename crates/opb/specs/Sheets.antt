@@ -1,5 +1,5 @@
 -- A whole sheet as a form, and its table.
-use Rattle.std.specs.Prelude.{◌≡◌, ℕ, ◌-◌, Bool, true, false, cond, List, [], ◌∷◌, ◌++◌, length, ℤ, Some, None, Ok, Err, Option, Result, nat_lt}
+use Rattle.std.specs.Prelude.{◌≡◌, ℕ, ◌-◌, Bool, cond, List, [], ◌∷◌, ◌++◌, length, ℤ, Some, None, Ok, Err, Option, Result, nat_lt}
 use Rattle.faults.specs.declared.fault.TextFault.{TextFault}
 use Rattle.faults.specs.declared.fault.TextFault.TheVariants.{Misplaced}
 use Rattle.faults.specs.declared.fault.SheetFault.{SheetFault}

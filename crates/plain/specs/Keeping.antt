@@ -1,6 +1,6 @@
 -- The invariant of the plain engine as a record, and its fields.
-use Rattle.std.specs.Prelude.{◌≡◌, ℕ, ◌+◌, ◌<◌, ◌≤◌, Bool, true, false, ◌≢◌, refl}
-use Rattle.std.proofs.Common.{sym, ap, subst, ◌∙◌, inl, inr, arith}
+use Rattle.std.specs.Prelude.{◌≡◌, ℕ, ◌<◌, ◌≤◌, Bool, true, ◌≢◌, refl}
+use Rattle.std.proofs.Common.{sym, subst, inl, inr, arith}
 use Rattle.std.proofs.lemmas.Bool.{cases_lt}
 use Rattle.rules.specs.Terms.{only}
 use Rattle.rules.specs.declared.Mark.{Mark}
@@ -9,7 +9,7 @@ use Rattle.store.specs.View.{held_in}
 use Rattle.store.specs.Assumes.{assumed_in}
 use Rattle.store.specs.declared.keep.Store.{Store}
 use Rattle.store.specs.declared.assumed.Assumed.{Assumed}
-use Rattle.backtrack.specs.Walk.{Path, Exhausted}
+use Rattle.backtrack.specs.Walk.{Exhausted}
 use Rattle.plain.specs.Ready.{Ready, at_walk}
 use Rattle.plain.specs.declared.walk.Walk.{Walk}
 use Rattle.plain.specs.declared.state.Plain.{Plain}

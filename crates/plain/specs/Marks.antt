@@ -1,7 +1,7 @@
 -- What is found among marks.
 use Rattle.std.specs.Prelude.{◌≡◌, ℕ, ◌<◌, Bool, true, false, cond, Some, None, Option, ◌≢◌, nat_lt}
 use Rattle.rules.specs.declared.Mark.{Mark}
-use Rattle.rules.specs.declared.Mark.TheVariants.{Free, Zero, One}
+use Rattle.rules.specs.declared.Mark.TheVariants.{Free, Zero}
 use Rattle.backtrack.specs.Clause.{opposed}
 
 -- the last 0 among the first d marks

@@ -1,9 +1,9 @@
 -- What the plain engine keeps while a question is open, and what its steps do.
-use Rattle.std.specs.Prelude.{◌≡◌, ℕ, ◌+◌, ◌<◌, ◌≤◌, Bool, true, false, cond, List, length}
+use Rattle.std.specs.Prelude.{◌≡◌, ℕ, ◌≤◌, Bool, cond}
 use Rattle.rules.specs.Rule.{marked}
 use Rattle.rules.specs.Terms.{only}
 use Rattle.rules.specs.declared.Mark.{Mark}
-use Rattle.rules.specs.declared.Mark.TheVariants.{Free, Zero, One}
+use Rattle.rules.specs.declared.Mark.TheVariants.{Free}
 use Rattle.engine.specs.Questions.{Question, none, posed}
 use Rattle.store.specs.View.{held_in}
 use Rattle.store.specs.Assumes.{assumed_in}

@@ -1,5 +1,5 @@
 -- What a step of the plain engine comes to.
-use Rattle.std.specs.Prelude.{◌≡◌, ℕ, ◌+◌, ◌^◌, ◌<◌, ◌≤◌, Bool, true, false, cond, ◌⊎◌, List, length, Some, None, ◌≢◌, refl}
+use Rattle.std.specs.Prelude.{◌≡◌, ℕ, ◌+◌, ◌^◌, ◌<◌, ◌≤◌, Bool, true, false, cond, List, length, Some, None, ◌≢◌, refl}
 use Rattle.std.proofs.Common.{sym, ap, subst, ◌∙◌, inl, inr, arith}
 use Rattle.rules.specs.Rule.{marked}
 use Rattle.rules.specs.Terms.{coefficient, only}
@@ -7,9 +7,8 @@ use Rattle.rules.specs.declared.Mark.{Mark}
 use Rattle.rules.specs.declared.Mark.TheVariants.{Free, Zero, One}
 use Rattle.rules.specs.declared.term.Literal.{Literal}
 use Rattle.rules.specs.declared.term.Rule.{Rule as Row}
-use Rattle.engine.specs.Questions.{Question, none, posed, WithinPledge, GoodLiteral, Answered, Refutation, Solution}
+use Rattle.engine.specs.Questions.{none, posed, WithinPledge, GoodLiteral, Answered}
 use Rattle.engine.specs.Held.{Every}
-use Rattle.engine.specs.declared.answer.Answer.{Answer}
 use Rattle.engine.specs.declared.answer.Answer.TheVariants.{Going, Yes, No}
 use Rattle.store.specs.View.{held_in}
 use Rattle.store.specs.Assumes.{assumed_in}
@@ -17,7 +16,7 @@ use Rattle.store.specs.declared.keep.Store.{Store}
 use Rattle.store.specs.declared.assumed.Assumed.{Assumed}
 use Rattle.store.proofs.Distinct.{only_free}
 use Rattle.backtrack.specs.Walk.{Path, Exhausted, Dead, LastZero, NoZero, deeper, turned, left}
-use Rattle.backtrack.specs.Clause.{refuted, opposed}
+use Rattle.backtrack.specs.Clause.{refuted}
 use Rattle.backtrack.proofs.Passing.{exhausted_start, exhausted_deeper, exhausted_turned, none_left, path_start, path_deeper, path_turned}
 use Rattle.backtrack.proofs.Left.{left_deeper, left_turned, left_within}
 use Rattle.backtrack.proofs.Ends.{dead_by_rule, dead_by_literal, solution_here, clause_refutes}

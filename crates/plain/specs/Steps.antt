@@ -8,7 +8,7 @@ use Rattle.engine.specs.declared.answer.Answer.TheVariants.{Going, Yes, No}
 use Rattle.store.specs.View.{held_in}
 use Rattle.store.specs.Assumes.{assumed_in}
 use Rattle.backtrack.specs.Walk.{deeper, turned}
-use Rattle.backtrack.specs.Clause.{opposed, refuted}
+use Rattle.backtrack.specs.Clause.{opposed}
 use Rattle.rules.specs.declared.Mark.TheVariants.{Zero}
 use Rattle.engine.specs.Questions.{Question}
 use Rattle.plain.specs.Ready.{at_walk, question_of}

@@ -3,7 +3,7 @@
 -- b + k is the number of the rule's literals: z(j) says that at least j of them are true. A price is a constant c and a row w
 -- of weights; each literal of the count rule weighs at least t, and t of each is moved to the constant and the fresh
 -- variables.
-use Rattle.std.specs.Prelude.{◌≡◌, ℕ, zero, suc, ◌+◌, ◌-◌, ◌*◌, ◌^◌, ◌<◌, ◌≤◌, Bool, true, false, cond, ℤ, pos, negsuc, ◌==◌, ◌≢◌, nat_lt}
+use Rattle.std.specs.Prelude.{◌≡◌, ℕ, zero, suc, ◌+◌, ◌-◌, ◌*◌, ◌^◌, ◌<◌, ◌≤◌, Bool, false, cond, ℤ, pos, negsuc, ◌==◌, ◌≢◌, nat_lt}
 use Rattle.rules.specs.Rule.{size, Full, open_sum, Met}
 use Rattle.rules.specs.declared.Mark.{Mark}
 use Rattle.cores.specs.Cores.{sizes}

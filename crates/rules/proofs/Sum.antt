@@ -1,5 +1,5 @@
 -- The laws of the sum over places.
-use Rattle.std.proofs.Common.{◌≡◌, ℕ, zero, suc, ◌+◌, ◌*◌, ◌<◌, ◌≤◌, ◌⊎◌, sym, refl, ap, subst, inl, inr, suc-mul, eq-or-lt_of_le, mul-add, add-one, arith}
+use Rattle.std.proofs.Common.{◌≡◌, ℕ, zero, suc, ◌+◌, ◌*◌, ◌<◌, ◌≤◌, refl, inl, inr, suc-mul, eq-or-lt_of_le, mul-add, add-one, arith}
 use Rattle.rules.specs.Sum.{total}
 
 pub total_le : (n : ℕ) (f g : ℕ → ℕ) → ((i : ℕ) → i < n → f i ≤ g i) → total f n ≤ total g n

@@ -1,5 +1,5 @@
 -- Rules over n parts: a row of signed coefficients (negative for a complement, 0 for no term) and a degree.
-use Rattle.std.specs.Prelude.{◌≡◌, ℕ, suc, ◌<◌, ◌≤◌, List, ℤ, pos, negsuc, ◌≢◌, slice_index_or, unsigned_abs}
+use Rattle.std.specs.Prelude.{ℕ, suc, ◌<◌, ◌≤◌, List, ℤ, pos, negsuc, ◌≢◌, slice_index_or, unsigned_abs}
 use Rattle.rules.specs.Sum.{total}
 use Rattle.rules.specs.declared.Mark.{Mark}
 use Rattle.rules.specs.declared.Mark.TheVariants.{Free, Zero, One}

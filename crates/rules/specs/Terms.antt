@@ -1,5 +1,5 @@
 -- Literals, terms and rules as values, and the marks and rows that they stand for.
-use Rattle.std.specs.Prelude.{ℕ, zero, suc, Bool, true, false, cond, List, [], ◌∷◌, replicate, ℤ, pos, negsuc, ◌==◌, slice_set}
+use Rattle.std.specs.Prelude.{ℕ, zero, suc, cond, List, [], ◌∷◌, replicate, ℤ, pos, negsuc, ◌==◌, slice_set}
 use Rattle.rules.specs.Rule.{at}
 use Rattle.rules.specs.declared.Mark.{Mark}
 use Rattle.rules.specs.declared.Mark.TheVariants.{Free, Zero, One}

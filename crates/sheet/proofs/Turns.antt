@@ -1,5 +1,5 @@
 -- What the loop over the rules keeps.
-use Rattle.std.proofs.Common.{◌≡◌, ℕ, suc, ◌+◌, ◌-◌, ◌<◌, ◌≤◌, Bool, true, false, cond, ltb, List, [], ◌∷◌, ◌++◌, length, ℤ, Ok, Err, Result, sym, refl, ap, ◌∙◌, subst, append_assoc, append-nil, arith, length-append}
+use Rattle.std.proofs.Common.{◌≡◌, ℕ, ◌+◌, ◌-◌, ◌<◌, ◌≤◌, true, false, List, [], ◌∷◌, ◌++◌, length, ℤ, Ok, Err, Result, sym, refl, ap, ◌∙◌, subst, append_assoc, append-nil, arith, length-append}
 use Rattle.faults.specs.declared.fault.SheetFault.{SheetFault}
 use Rattle.faults.specs.declared.fault.SheetFault.TheVariants.{Count}
 use Rattle.text.specs.declared.reader.Reader.{Reader}
@@ -8,7 +8,7 @@ use Rattle.lines.specs.declared.line.Comparison.{Comparison}
 use Rattle.lines.specs.declared.line.Comparison.TheVariants.{AtLeast, Equal}
 use Rattle.lines.specs.declared.line.Rule.{Rule}
 use Rattle.lines.specs.Lines.{rows_for}
-use Rattle.rows.specs.Rows.{Row, all_rows, rule_rows, rows_by, table_with, Lined, Narrow, words, turn, Appends}
+use Rattle.rows.specs.Rows.{Row, all_rows, rule_rows, rows_by, table_with, Lined, Narrow, words, Appends}
 use Rattle.rows.proofs.Laid.{turn_narrow, lined_append}
 use Rattle.sheet.specs.Reads.{Holds, RulesRead}
 use Rattle.text.specs.declared.reader.Limit.TheVariants.{Coefficient}
@@ -18,7 +18,7 @@ use Rattle.text.proofs.Progress.{onward_limited, forward_gap}
 use Rattle.text.proofs.Steps.{step_goes, step_stops, step_give, Going, going_done, going_stops}
 use Rattle.lines.specs.declared.line.Header.{Header}
 use Rattle.lines.proofs.Progress.{forward_rule}
-use Rattle.opb.specs.Sheets.{expected, complete, rows_of, RuleLine, NextRule, Rules, unended}
+use Rattle.opb.specs.Sheets.{expected, complete, rows_of, RuleLine, NextRule, unended}
 
 pub surplus : (announced count start : ℕ) → announced ≤ count → Err (Count start) ≡ expected announced count start
 surplus announced count start h = grind arith

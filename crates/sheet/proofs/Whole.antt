@@ -1,23 +1,22 @@
 -- The whole text: its parts one after another, and that there is one outcome only.
-use Rattle.std.proofs.Common.{◌≡◌, ℕ, ◌≤◌, Bool, true, false, cond, List, [], length, replicate, ℤ, pos, Some, None, Ok, Err, Option, Result, sym, refl, ap, ◌∙◌, subst, arith}
+use Rattle.std.proofs.Common.{◌≡◌, ℕ, List, [], length, replicate, ℤ, pos, Ok, Err, Option, Result, sym, refl, ap, ◌∙◌, subst}
 use lib.ListN.{length-replicate, replicate-append-replicate}
 use Rattle.faults.specs.declared.fault.RunFault.{RunFault}
 use Rattle.faults.specs.declared.fault.RunFault.TheVariants as run
 use Rattle.faults.specs.declared.fault.TextFault.{TextFault}
 use Rattle.faults.specs.declared.fault.SheetFault.{SheetFault}
 use Rattle.faults.specs.declared.fault.SheetFault.TheVariants.{Text}
-use Rattle.forms.specs.Forms.{Outcome, got, bad, outcome, Exact, Then, goes, stops, Branch, taken, left, Give, Lifted, well, fault}
+use Rattle.forms.specs.Forms.{Outcome, outcome, Then, goes, stops, Lifted, well, fault}
 use Rattle.text.specs.declared.reader.Reader.{Reader}
 use Rattle.text.specs.Reading.{Step}
 use Rattle.text.specs.Tokens.{short, Gap}
-use Rattle.text.proofs.Steps.{step_goes, step_stops, step_give, step_well, step_fault}
+use Rattle.text.proofs.Steps.{step_goes, step_stops, step_give, step_well}
 use Rattle.lines.specs.declared.line.Header.{Header}
-use Rattle.lines.specs.declared.line.Rule.{Rule}
 use Rattle.lines.specs.declared.line.Sum.{Sum}
 use Rattle.lines.specs.Lines.{HeaderLine}
-use Rattle.rows.specs.Rows.{laid, table_with, front_of, all_rows, NarrowPrice, Fronts}
-use Rattle.sheet.specs.Reads.{Filled, RulesRead, Zeros, Laid, BodyRead, Said, TextRead, Reading}
-use Rattle.opb.specs.Sheets.{Written, Price, RuleLine, NextRule, Rules, Body, Whole, unended, rows_of, Says, Refused, table_of}
+use Rattle.rows.specs.Rows.{laid, table_with, front_of, all_rows, Fronts}
+use Rattle.sheet.specs.Reads.{Filled, Zeros, BodyRead, Said, TextRead, Reading}
+use Rattle.opb.specs.Sheets.{Written, Price, Rules, Body, Whole, Refused, table_of}
 use Rattle.meaning.specs.Means.{Means}
 use Rattle.meaning.proofs.Layouts.{table_sound}
 use Rattle.meaning.proofs.Tables.{table_means}

@@ -7,7 +7,7 @@ use Rattle.text.specs.declared.reader.Reader.{Reader}
 use Rattle.text.specs.Reading.{Step}
 use Rattle.lines.specs.declared.line.Header.{Header}
 use Rattle.lines.specs.declared.line.Rule.{Rule}
-use Rattle.rows.specs.Rows.{all_rows, table_with, Lined}
+use Rattle.rows.specs.Rows.{all_rows, table_with}
 use Rattle.meaning.specs.Means.{Means}
 use Rattle.table.specs.Layout.{Sound}
 use Rattle.opb.specs.Language.{Language}

@@ -1,5 +1,5 @@
 -- The line that a place of a text stands in.
-use Rattle.std.specs.Prelude.{◌≡◌, ℕ, ◌+◌, ◌-◌, ◌<◌, ◌≤◌, ◌⊎◌, List, length, take, count_by, ◌≢◌, nat_eq, slice_index}
+use Rattle.std.specs.Prelude.{◌≡◌, ℕ, ◌+◌, ◌-◌, ◌<◌, ◌≤◌, List, length, take, count_by, ◌≢◌, nat_eq, slice_index}
 use Rattle.spot.specs.declared.view.Spot.{Spot}
 use Rattle.spot.specs.declared.view.Window.{Window}
 

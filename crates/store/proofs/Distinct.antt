@@ -1,5 +1,5 @@
 -- Different numbers below n are at most n.
-use Rattle.std.proofs.Common.{◌≡◌, ℕ, zero, suc, ◌+◌, ◌*◌, ◌<◌, ◌≤◌, true, false, cond, eqb, List, [], ◌∷◌, ◌++◌, length, take, set, replicate, sym, refl, ap, ◌∙◌, inl, inr, arith}
+use Rattle.std.proofs.Common.{◌≡◌, ℕ, zero, suc, ◌+◌, ◌<◌, ◌≤◌, true, false, cond, eqb, List, [], ◌∷◌, ◌++◌, length, take, set, replicate, sym, refl, ap, ◌∙◌, inl, inr, arith}
 use Rattle.std.proofs.lemmas.List.{take_more, take_more_set, length-take-le, get_or-take, get_or-set_same, get_or-set_other}
 use Rattle.rules.specs.Rule.{marked}
 use Rattle.rules.specs.Terms.{true_mark, only}
@@ -10,7 +10,7 @@ use Rattle.engine.specs.Held.{Every, no_literal}
 use Rattle.engine.specs.Questions.{literal_at, GoodLiteral}
 use Rattle.std.proofs.lemmas.Bool.{eq-eqb, ne_eqb, cases_eq}
 use Rattle.rules.specs.Sum.{total}
-use Rattle.rules.proofs.Sum.{total_same, total_add, total_none, total_same_but, total_bound}
+use Rattle.rules.proofs.Sum.{total_add, total_none, total_same_but, total_bound}
 
 -- 1 where x is v; and how often v is among f 0 to f (k - 1)
 abbrev hit : ℕ → ℕ → ℕ

@@ -1,10 +1,10 @@
 -- The row of good terms is within their limits.
-use Rattle.std.proofs.Common.{◌≡◌, ℕ, zero, suc, ◌+◌, ◌<◌, ◌≤◌, Bool, true, false, cond, ◌⊎◌, List, [], ◌∷◌, length, get_or, set, replicate, ℤ, pos, negsuc, sym, refl, ap, ◌∙◌, subst, inl, inr, arith}
+use Rattle.std.proofs.Common.{◌≡◌, ℕ, zero, suc, ◌+◌, ◌<◌, ◌≤◌, Bool, true, false, cond, ◌⊎◌, List, [], ◌∷◌, length, get_or, set, replicate, ℤ, pos, sym, refl, ap, ◌∙◌, subst, inl, inr, arith}
 use Rattle.std.proofs.lemmas.List.{get_or-set_same, get_or-set_other}
 use Rattle.std.proofs.lemmas.Bool.{cases_eq}
 use Rattle.rules.specs.Rule.{at, size}
 use Rattle.rules.proofs.Placed.{zeros}
-use Rattle.rules.specs.Terms.{signed, on_complement, placed, row_of, coefficient}
+use Rattle.rules.specs.Terms.{signed, on_complement, placed, row_of}
 use Rattle.rules.specs.declared.term.Term.{Term as Pair}
 use Rattle.rules.specs.declared.term.Rule.{Rule as Row}
 use Rattle.engine.specs.Held.{blank, no_term, variable_of, GoodTerm, Every}

@@ -2,7 +2,6 @@
 use Rattle.std.proofs.Common.{◌≡◌, ℕ, zero, suc, ◌+◌, ◌<◌, ◌≤◌, List, [], ◌∷◌, length, get_or, take, drop, set, ℤ, sym, refl, ap, ◌∙◌, subst, arith}
 use Rattle.std.proofs.lemmas.List.{length-take-le, get_or-take, at_drop_more, take_more_set}
 use Rattle.rules.specs.declared.term.Rule.{Rule as Row}
-use Rattle.rules.specs.Rule.{size}
 use Rattle.rules.proofs.Placed.{size_zero}
 use Rattle.rules.specs.Terms.{signed, placed}
 use Rattle.rules.specs.declared.term.Term.{Term as Pair}

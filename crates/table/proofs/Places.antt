@@ -1,11 +1,10 @@
 -- Which place each word has, and what a sound table holds there.
-use Rattle.std.proofs.Common.{◌≡◌, ℕ, ◌+◌, ◌-◌, ◌*◌, ◌/◌, ◌%◌, ◌<◌, ◌≤◌, Bool, true, false, ◌&&◌, eqb, ltb, List, ℤ, pos, negsuc, nat_abs, refl, ap, subst, arith}
+use Rattle.std.proofs.Common.{◌≡◌, ℕ, ◌+◌, ◌*◌, ◌<◌, ◌≤◌, Bool, true, false, ◌&&◌, List, ℤ, pos, negsuc, nat_abs, refl, subst, arith}
 use Rattle.std.proofs.lemmas.Int.{ints}
 use Rattle.std.proofs.lemmas.Bool.Decides.{nat_tests}
-use Rattle.table.specs.declared.place.Limits.{Limits}
 use Rattle.table.specs.declared.place.Place.{Place}
 use Rattle.table.specs.declared.place.Place.TheVariants.{Parts, Rules, Base, Priced, Weight, Degree, Coefficient}
-use Rattle.table.specs.Layout.{word, base, weight, degree, coefficient, parts_of, rules_of, priced, declared, stated, place_of, range, used, limits_of, Within, Fine, Sound}
+use Rattle.table.specs.Layout.{word, base, weight, degree, coefficient, parts_of, rules_of, priced, declared, stated, place_of, range, used, limits_of, Within, Fine}
 
 pub place_parts : place_of 0 ≡ Parts
 unfolding place_of

@@ -1,5 +1,5 @@
 -- The layout of a table: which word is which, and what each may hold.
-use Rattle.std.specs.Prelude.{◌≡◌, ℕ, ◌+◌, ◌-◌, ◌*◌, ◌/◌, ◌%◌, ◌<◌, ◌≤◌, Bool, cond, not, ◌&&◌, List, length, ℤ, pos, negsuc, ◌≤ℤ◌, Ok, Err, Result, ◌==◌, nat_lt, slice_index_or, unsigned_abs}
+use Rattle.std.specs.Prelude.{◌≡◌, ℕ, ◌+◌, ◌-◌, ◌*◌, ◌/◌, ◌%◌, ◌<◌, Bool, cond, not, ◌&&◌, List, length, ℤ, pos, negsuc, ◌≤ℤ◌, Ok, Err, Result, ◌==◌, nat_lt, slice_index_or, unsigned_abs}
 use Rattle.faults.specs.declared.fault.RunFault.{RunFault}
 use Rattle.faults.specs.declared.fault.RunFault.TheVariants.{Sheet, TableLength, Layout}
 use Rattle.table.specs.declared.place.Limits.{Limits}

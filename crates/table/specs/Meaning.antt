@@ -1,7 +1,6 @@
 -- What a table says: which choices of parts meet it, and what a choice costs.
 use Rattle.std.specs.Prelude.{ℕ, ◌<◌, ◌≤◌, Bool, true, false, List, ℤ, pos, ◌+ℤ◌}
-use Rattle.rules.specs.Sum.{total}
-use Rattle.rules.specs.Rule.{kept, open_sum}
+use Rattle.rules.specs.Rule.{open_sum}
 use Rattle.rules.specs.declared.Mark.{Mark}
 use Rattle.rules.specs.declared.Mark.TheVariants.{Zero, One}
 use Rattle.table.specs.Layout.{base, weight, rules_of, degree, coefficient}

@@ -1,13 +1,13 @@
 -- From each place there is at most one token of a kind, or one fault.
-use Rattle.std.proofs.Common.{◌≡◌, ℕ, ◌+◌, ◌<◌, Bool, true, false, cond, List, [], ◌∷◌, ℤ, sym, refl, ap, ◌∙◌, subst, arith}
-use Rattle.forms.specs.Forms.{Outcome, got, bad, Exact}
+use Rattle.std.proofs.Common.{ℕ, ◌+◌, List, [], ◌∷◌, sym, refl, ap, ◌∙◌, arith}
+use Rattle.forms.specs.Forms.{got, bad, Exact}
 use Rattle.forms.proofs.Exactness.{both, exact_then, exact_loop, exact_just, exact_from, exact_give}
 use Rattle.text.specs.declared.reader.Class.{Class}
 use Rattle.text.specs.declared.reader.Class.TheVariants.{Digit}
 use Rattle.text.specs.declared.reader.Limit.{Limit}
 use Rattle.text.specs.declared.reader.Sign.{Sign}
-use Rattle.text.specs.Bytes.{sees, Run, spelling}
-use Rattle.text.specs.Tokens.{Pass, passed, Bytes, whole, here, wrong, Spelt, Digits, some, none, Minus, Number, Name, Limited, Gap, Comment, Line}
+use Rattle.text.specs.Bytes.{spelling}
+use Rattle.text.specs.Tokens.{Pass, passed, Bytes, whole, here, wrong, Spelt, Digits, some, none, Number, Name, Limited, Gap, Line}
 use Rattle.text.proofs.Runs.{run_unique}
 
 pub exact_pass : (c : Class) (text : List ℕ) → Exact (Pass c text)

@@ -1,6 +1,6 @@
 -- A number that is cut off past every limit is within its limits exactly when the number itself is.
-use Rattle.std.proofs.Common.{◌≡◌, ℕ, ◌+◌, ◌≤◌, min, Bool, true, false, cond, List, get_or, drop, ℤ, pos, negsuc, ◌-ℤ◌, neg_ℤ, Ok, Err, Result, sym, refl, ap, ◌∙◌, arith, w32, SFits, to_z, of_z}
-use lib.Signed.{le_z, lt_z}
+use Rattle.std.proofs.Common.{◌≡◌, ℕ, min, Bool, true, false, cond, List, get_or, drop, ℤ, pos, negsuc, ◌-ℤ◌, neg_ℤ, Ok, Err, Result, sym, refl, ap, ◌∙◌, arith, w32, SFits, to_z, of_z}
+use lib.Signed.{lt_z}
 use Rattle.std.proofs.lemmas.Int.{ints, to_z-of_z}
 use Rattle.faults.specs.declared.fault.TextFault.{TextFault}
 use Rattle.faults.specs.declared.fault.TextFault.TheVariants.{Beyond}

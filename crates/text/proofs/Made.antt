@@ -1,8 +1,7 @@
 -- The tokens that the reader makes: what it has passed, and what the bytes since then say.
-use Rattle.std.proofs.Common.{◌≡◌, ℕ, ◌+◌, ◌<◌, ◌≤◌, Bool, List, length, Ok, Err, sym, refl, ap, ◌∙◌, subst, arith}
+use Rattle.std.proofs.Common.{◌≡◌, ℕ, ◌+◌, ◌<◌, ◌≤◌, Bool, List, length, Ok, sym, ap, ◌∙◌, arith}
 use Rattle.std.specs.List.{between}
 use Rattle.forms.specs.Forms.{got}
-use Rattle.faults.specs.declared.fault.TextFault.{TextFault}
 use Rattle.text.specs.declared.reader.Reader.{Reader}
 use Rattle.text.specs.Bytes.{decimal, signed, number_of, index_of}
 use Rattle.text.specs.Tokens.{Byte, Digits, Minus, Number, Name}

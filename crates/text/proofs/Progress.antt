@@ -1,6 +1,6 @@
 -- The forms of tokens go forward, or on.
-use Rattle.std.proofs.Common.{◌≡◌, ℕ, ◌+◌, ◌<◌, ◌≤◌, Bool, true, false, cond, List, [], ◌∷◌, Ok, Err, Result, arith}
-use Rattle.forms.specs.Forms.{Outcome, got, bad, Form, Then, goes, Loop, Just, From, Give, Forward, Onward}
+use Rattle.std.proofs.Common.{◌≡◌, ℕ, ◌+◌, ◌<◌, true, List, [], ◌∷◌, arith}
+use Rattle.forms.specs.Forms.{got, goes, Forward, Onward}
 use Rattle.forms.proofs.Progress.{onward_then, onward_after, forward_then, forward_onward, onward_from, forward_from, forward_give, forward_loop}
 use Rattle.text.specs.declared.reader.Class.{Class}
 use Rattle.text.specs.declared.reader.Limit.{Limit}
@@ -8,7 +8,7 @@ use Rattle.text.specs.declared.reader.Sign.{Sign}
 use Rattle.text.specs.declared.reader.Class.TheVariants.{Inline}
 use Rattle.text.specs.Bytes.{belongs, sees, stands, spelling}
 use Rattle.text.proofs.Runs.{run_begins}
-use Rattle.text.specs.Tokens.{Pass, passed, Byte, Bytes, whole, here, wrong, Spelt, Digits, some, none, Minus, Number, Name, Limited, limited, Gap, Comment, Line}
+use Rattle.text.specs.Tokens.{Pass, passed, Byte, Bytes, whole, here, Spelt, Digits, some, Minus, Number, Name, Limited, Gap, Comment, Line}
 
 pub forward_pass : (c : Class) (text : List ℕ) → Forward (Pass c text)
 forward_pass c text from to a (passed _ r) = r.forward

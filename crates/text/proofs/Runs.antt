@@ -1,5 +1,5 @@
 -- Runs of bytes: there is one from each place, and only one.
-use Rattle.std.proofs.Common.{◌≡◌, ℕ, zero, suc, ◌+◌, ◌-◌, ◌<◌, ◌≤◌, Bool, true, false, cond, ltb, List, length, sym, refl, ap, ◌∙◌, subst, arith}
+use Rattle.std.proofs.Common.{◌≡◌, ℕ, zero, suc, ◌+◌, ◌-◌, ◌<◌, ◌≤◌, Bool, true, false, ltb, List, length, refl, subst, arith}
 use Rattle.forms.proofs.Exactness.{both}
 use Rattle.text.specs.declared.reader.Class.{Class}
 use Rattle.text.specs.Bytes.{sees, Run}

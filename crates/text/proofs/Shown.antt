@@ -1,8 +1,8 @@
 -- What the bytes that a token shows say.
-use Rattle.std.proofs.Common.{◌≡◌, ℕ, suc, ◌+◌, ◌-◌, ◌<◌, ◌≤◌, Bool, true, false, cond, eqb, List, [], ◌∷◌, length, get_or, take, drop, sym, refl, ap, ◌∙◌, subst, arith}
+use Rattle.std.proofs.Common.{◌≡◌, ℕ, suc, ◌+◌, ◌-◌, ◌<◌, ◌≤◌, Bool, true, false, cond, eqb, List, ◌∷◌, length, get_or, refl, arith}
 use Rattle.std.specs.List.{between}
 use Rattle.std.proofs.lemmas.List.{drop_more}
-use Rattle.forms.specs.Forms.{Outcome, got, bad}
+use Rattle.forms.specs.Forms.{Outcome, got}
 use Rattle.faults.specs.declared.fault.TextFault.{TextFault}
 use Rattle.text.specs.Bytes.{stands, decimal, signed, number_of, index_of}
 use Rattle.text.specs.Tokens.{minus}

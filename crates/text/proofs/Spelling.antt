@@ -1,11 +1,11 @@
 -- A fixed spelling, read byte by byte.
-use Rattle.std.proofs.Common.{◌≡◌, ℕ, ◌+◌, ◌<◌, ◌≤◌, Bool, true, false, cond, List, [], ◌∷◌, length, get_or, drop, Ok, Err, Result, sym, refl, ap, ◌∙◌, subst, arith}
+use Rattle.std.proofs.Common.{◌≡◌, ℕ, ◌+◌, ◌<◌, ◌≤◌, Bool, true, false, cond, List, ◌∷◌, length, get_or, drop, Ok, Err, Result, refl, ◌∙◌, subst, arith}
 use Rattle.std.proofs.lemmas.List.{drop_more, drop_all}
-use Rattle.forms.specs.Forms.{Outcome, got, bad, outcome}
+use Rattle.forms.specs.Forms.{Outcome, got, bad}
 use Rattle.faults.specs.declared.fault.TextFault.{TextFault}
 use Rattle.text.specs.declared.reader.Reader.{Reader}
 use Rattle.text.specs.Bytes.{stands}
-use Rattle.text.specs.Tokens.{Bytes, whole, here, wrong, Byte, byte, missing}
+use Rattle.text.specs.Tokens.{Bytes, whole, here, wrong, Byte, missing}
 use Rattle.text.specs.Reading.{Step}
 
 -- from r on the reader has passed the first i bytes of the spelling, and stands at s

@@ -1,7 +1,7 @@
 -- How the steps of a reader are put together: what a function that reads owes at each of its exits.
-use Rattle.std.proofs.Common.{◌≡◌, ℕ, ◌-◌, ◌<◌, ◌≤◌, Bool, true, false, List, length, IsErrAnd, Ok, Err, Result, sym, refl, ap, ◌∙◌, subst, arith}
+use Rattle.std.proofs.Common.{◌≡◌, ℕ, ◌-◌, ◌<◌, ◌≤◌, Bool, true, false, List, length, IsErrAnd, Ok, Err, Result, refl, ap, ◌∙◌, subst, arith}
 use Rattle.std.proofs.lemmas.Result.{err_from_is_err_and}
-use Rattle.forms.specs.Forms.{Outcome, got, bad, Form, Then, goes, stops, Loop, done, turn, breaks, Branch, taken, left, Just, From, Give, Lifted, well, fault, outcome, Forward, Onward}
+use Rattle.forms.specs.Forms.{Outcome, got, bad, Form, Then, goes, stops, Loop, done, turn, breaks, Branch, taken, left, Just, From, Give, Lifted, well, fault, outcome, Forward}
 use Rattle.text.specs.declared.reader.Reader.{Reader}
 use Rattle.text.specs.Reading.{Step, told, seen}
 

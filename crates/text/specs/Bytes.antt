@@ -1,5 +1,5 @@
 -- Bytes by their class, runs of them, fixed spellings and decimal numbers.
-use Rattle.std.specs.Prelude.{◌≡◌, ℕ, ◌+◌, ◌-◌, ◌*◌, ◌<◌, ◌≤◌, Bool, true, false, cond, not, List, [], ◌∷◌, length, drop, ℤ, pos, neg_ℤ, codes, fold, ◌==◌, nat_le, nat_lt, slice_index}
+use Rattle.std.specs.Prelude.{◌≡◌, ℕ, ◌+◌, ◌-◌, ◌*◌, ◌<◌, ◌≤◌, Bool, true, false, cond, not, List, length, drop, ℤ, pos, neg_ℤ, codes, fold, ◌==◌, nat_le, nat_lt, slice_index}
 use Rattle.text.specs.declared.reader.Class.{Class}
 use Rattle.text.specs.declared.reader.Class.TheVariants.{Digit, Blank, Inline}
 use Rattle.text.specs.declared.reader.Sign.{Sign}

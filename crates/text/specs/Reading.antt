@@ -3,7 +3,7 @@ use Rattle.std.specs.Prelude.{◌≡◌, ℕ, List, ℤ, pos, Ok, Err, Result}
 use Rattle.std.specs.List.{between}
 use Rattle.faults.specs.declared.fault.TextFault.{TextFault}
 use Rattle.faults.specs.declared.fault.TextFault.TheVariants.{Misplaced}
-use Rattle.forms.specs.Forms.{Outcome, Form, outcome}
+use Rattle.forms.specs.Forms.{Form, outcome}
 use Rattle.text.specs.declared.reader.Limit.{Limit}
 use Rattle.text.specs.declared.reader.Reader.{Reader}
 use Rattle.text.specs.declared.reader.Token.{Token}

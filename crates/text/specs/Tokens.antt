@@ -1,9 +1,9 @@
 -- The tokens of a text as forms: from a place, what token stands there and what it says, or the fault.
-use Rattle.std.specs.Prelude.{◌≡◌, ℕ, ◌+◌, ◌-◌, ◌<◌, ◌≤◌, min, Bool, true, false, cond, List, [], ◌∷◌, length, ℤ, pos, negsuc, Ok, Err, Result, int_le, nat_le, nat_lt}
+use Rattle.std.specs.Prelude.{◌≡◌, ℕ, ◌+◌, ◌<◌, min, Bool, true, false, cond, List, [], ◌∷◌, length, ℤ, pos, negsuc, Ok, Err, Result, int_le, nat_le, nat_lt}
 use Rattle.std.specs.List.{between}
 use Rattle.faults.specs.declared.fault.TextFault.{TextFault}
 use Rattle.faults.specs.declared.fault.TextFault.TheVariants.{TooLong, Misplaced, Beyond, Cut}
-use Rattle.forms.specs.Forms.{Outcome, got, bad, Form, Then, Loop, Just, From, Give, outcome}
+use Rattle.forms.specs.Forms.{Outcome, got, bad, Form, Then, Loop, Just, From, Give}
 use Rattle.text.specs.declared.reader.Class.{Class}
 use Rattle.text.specs.declared.reader.Class.TheVariants.{Digit, Blank, Inline}
 use Rattle.text.specs.declared.reader.Limit.{Limit}

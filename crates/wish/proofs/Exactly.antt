@@ -1,11 +1,11 @@
 -- The whole text of one rule, and that there is one answer only.
-use Rattle.std.proofs.Common.{◌≡◌, ℕ, ◌-◌, ◌<◌, List, length, ℤ, Ok, Err, Result, sym, refl, ap, ◌∙◌, subst, arith}
+use Rattle.std.proofs.Common.{◌≡◌, ℕ, ◌-◌, ◌<◌, List, length, ℤ, Ok, Err, Result, refl, ap, ◌∙◌, subst, arith}
 use Rattle.faults.specs.declared.fault.RunFault.{RunFault}
 use Rattle.faults.specs.declared.fault.RunFault.TheVariants.{Sheet, TableLength, Layout}
 use Rattle.faults.specs.declared.fault.TextFault.{TextFault}
 use Rattle.faults.specs.declared.fault.SheetFault.{SheetFault}
 use Rattle.faults.specs.declared.fault.SheetFault.TheVariants.{Text}
-use Rattle.forms.specs.Forms.{Outcome, got, bad, outcome, goes, stops, well, fault}
+use Rattle.forms.specs.Forms.{Outcome, outcome, goes, stops, well, fault}
 use Rattle.forms.proofs.Exactness.{apart}
 use Rattle.text.specs.declared.reader.Reader.{Reader}
 use Rattle.text.specs.Reading.{Step}

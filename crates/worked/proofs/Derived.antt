@@ -1,17 +1,16 @@
 -- The division, the counts, the rounds and the new price that are worked out.
-use Rattle.std.proofs.Common.{◌≡◌, ℕ, zero, suc, ◌+◌, ◌-◌, ◌*◌, ◌<◌, ◌≤◌, Bool, true, false, cond, not, eqb, ltb, List, [], ◌∷◌, get_or, ℤ, pos, negsuc, sym, refl, ap, ◌∙◌, subst, arith}
+use Rattle.std.proofs.Common.{◌≡◌, ℕ, zero, suc, ◌+◌, ◌*◌, ◌<◌, ◌≤◌, Bool, true, false, cond, not, eqb, List, [], ◌∷◌, get_or, ℤ, pos, sym, refl, ap, ◌∙◌, subst, arith}
 use Rattle.rules.specs.Sum.{total}
 use Rattle.rules.specs.Rule.{at, size}
-use Rattle.derive.specs.Derive.{rounded, divided}
-use Rattle.cores.specs.Cores.{sizes}
-use Rattle.counting.specs.Counting.{sum_in, sum_outside, number_in, count_row, Reaches, Least, ChosenGreatestFirst}
+use Rattle.derive.specs.Derive.{divided}
+use Rattle.counting.specs.Counting.{sum_in, sum_outside, number_in, Least}
 use Rattle.counting.specs.Gain.{heavy, Smallest}
-use Rattle.counting.specs.Rounds.{Round, FirstGreatest}
+use Rattle.counting.specs.Rounds.{Round}
 use Rattle.counting.proofs.Counting.{clash, greatest_first}
 use Rattle.counting.proofs.Rounds.{heavy_weighs}
-use Rattle.reform_laws.specs.Reform.{fresh_needed, new_weight, less, fresh}
+use Rattle.reform_laws.specs.Reform.{new_weight, less}
 use Rattle.reform_laws.proofs.Fresh.{fresh_out}
-use Rattle.worked.specs.Derived.{WorkedDivision, WorkedCounts, three_and_ones, core, price, weights, WorkedRounds, counted, WorkedPrice, WorkedDerivations}
+use Rattle.worked.specs.Derived.{WorkedDivision, three_and_ones, core, price, weights, WorkedRounds, counted, WorkedPrice, WorkedDerivations}
 
 each : (i : ℕ) → divided 3 (at (pos 3 ∷ pos 2 ∷ []) i) ≡ at (pos 1 ∷ pos 1 ∷ []) i
 each zero = refl

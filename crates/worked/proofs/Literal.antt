@@ -1,5 +1,5 @@
 -- What stands in a text that is written out: each fact is a computed test.
-use Rattle.std.proofs.Common.{◌≡◌, ℕ, zero, suc, ◌+◌, ◌<◌, ◌≤◌, Bool, true, false, cond, ltb, List, length, ℤ, pos, neg_ℤ, ◌≤ℤ◌, sym, refl, ap, ◌∙◌, subst, arith}
+use Rattle.std.proofs.Common.{◌≡◌, ℕ, zero, suc, ◌+◌, ◌<◌, ◌≤◌, Bool, true, false, cond, ltb, List, length, ℤ, pos, neg_ℤ, ◌≤ℤ◌, refl, subst, arith}
 use lib.Signed.{le_z}
 use Rattle.std.proofs.lemmas.Int.{ints}
 use Rattle.std.specs.List.{between}
@@ -10,7 +10,7 @@ use Rattle.text.specs.declared.reader.Limit.{Limit}
 use Rattle.text.specs.declared.reader.Sign.{Sign}
 use Rattle.text.specs.Bytes.{sees, stands, Run, spelling, decimal}
 use Rattle.text.specs.Tokens.{low, high}
-use Rattle.opb.specs.Language.{SpeltAt, SignAt, unsigned, negative, DigitsAt, NumberAt, NameAt}
+use Rattle.opb.specs.Language.{SpeltAt, unsigned, negative, DigitsAt, NumberAt, NameAt}
 
 -- n bytes of the class stand from `from` on
 abbrev pub all_sees : List ℕ → Class → ℕ → ℕ → Bool

@@ -1,5 +1,5 @@
 -- The worked readings, token by token.
-use Rattle.std.proofs.Common.{◌≡◌, ℕ, List, [], ◌∷◌, ◌++◌, ℤ, pos, negsuc, neg_ℤ, nat_abs, Some, codes, refl, lit<, lit≤}
+use Rattle.std.proofs.Common.{ℕ, List, [], ◌∷◌, ◌++◌, pos, negsuc, neg_ℤ, nat_abs, Some, codes, refl, lit<, lit≤}
 use Rattle.text.specs.declared.reader.Class.TheVariants.{Blank, Inline}
 use Rattle.text.specs.declared.reader.Limit.TheVariants as limit
 use Rattle.text.specs.declared.reader.Sign.TheVariants as sign

@@ -1,5 +1,5 @@
 -- Derivations that are worked out: a division, two counts, and one core from its rounds to the new price.
-use Rattle.std.specs.Prelude.{◌≡◌, ℕ, ◌+◌, ◌-◌, ◌*◌, ◌<◌, Bool, true, not, List, [], ◌∷◌, ℤ, pos, ◌==◌}
+use Rattle.std.specs.Prelude.{◌≡◌, ℕ, ◌+◌, ◌-◌, ◌*◌, ◌<◌, true, not, [], ◌∷◌, ℤ, pos, ◌==◌}
 use Rattle.rules.specs.Rule.{at}
 use Rattle.derive.specs.Derive.{rounded, divided}
 use Rattle.counting.specs.Counting.{sum_outside, count_row, Least}

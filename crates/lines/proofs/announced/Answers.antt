@@ -1,5 +1,4 @@
-use Rattle.std.proofs.Common.{◌≡◌, sym, refl, ap, ◌∙◌, arith, rules}
-use Rattle.text.proofs.Steps.{step_goes, step_stops, step_from, step_give, step_well, step_fault, step_taken, step_left, err_is, told_err}
+use Rattle.text.proofs.Steps.{step_goes, step_stops, err_is}
 use Rattle.lines.proofs.announced.Goals as goal
 
 pub returns-in_err-sign : goal.returns-in_err-sign

@@ -1,5 +1,5 @@
-use Rattle.std.proofs.Common.{◌≡◌, sym, refl, ap, ◌∙◌, arith, rules}
-use Rattle.text.proofs.Steps.{step_goes, step_stops, step_from, step_give, step_well, step_fault, step_taken, step_left, err_is, told_err, going_none, going_more, going_done, going_stops, going_less}
+use Rattle.std.proofs.Common.{rules}
+use Rattle.text.proofs.Steps.{step_goes, step_stops, step_from, step_give, step_well, step_fault, err_is}
 use Rattle.lines.proofs.Parts.{unknown, known_part}
 use Rattle.lines.proofs.part.Goals as goal
 

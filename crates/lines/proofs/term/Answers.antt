@@ -1,5 +1,5 @@
-use Rattle.std.proofs.Common.{◌≡◌, sym, refl, ap, ◌∙◌, arith, w32, SFits, rules}
-use Rattle.text.proofs.Steps.{step_goes, step_stops, step_from, step_give, step_well, step_fault, step_taken, step_left, err_is, told_err, going_none, going_more, going_done, going_stops, going_less}
+use Rattle.std.proofs.Common.{w32, SFits, rules}
+use Rattle.text.proofs.Steps.{step_goes, step_stops, step_well, step_fault, told_err}
 use Rattle.std.proofs.lemmas.Int.{to_z-of_z}
 use Rattle.lines.proofs.Parts.{limited_at, named_at}
 use Rattle.lines.proofs.term.Goals as goal

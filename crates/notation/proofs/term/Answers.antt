@@ -1,4 +1,4 @@
-use Rattle.std.proofs.Common.{◌≡◌, ℕ, List, ◌++◌, pos, nat_abs, string_bytes, codes, decimal, ap, ap₂}
+use Rattle.std.proofs.Common.{◌≡◌, ℕ, List, ◌++◌, pos, nat_abs, string_bytes, codes, decimal, ap₂}
 use lib.Signed.{le_z}
 use Rattle.std.proofs.lemmas.Int.{to_z-of_z}
 use Rattle.notation.specs.Text.{literal_text, term_text}

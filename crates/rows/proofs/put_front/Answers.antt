@@ -1,4 +1,4 @@
-use Rattle.std.proofs.Common.{◌≡◌, ℕ, ◌≤◌, List, ◌∷◌, set, replicate, ℤ, pos, None, Option, sym, refl, ap, ◌∙◌, subst, arith, w32, to_z}
+use Rattle.std.proofs.Common.{◌≡◌, ℕ, ◌≤◌, List, ◌∷◌, set, replicate, ℤ, pos, None, Option, sym, ap, ◌∙◌, arith, w32, to_z}
 use Rattle.std.proofs.lemmas.Int.{ints}
 use Rattle.lines.specs.declared.line.Sum.{Sum}
 use Rattle.rows.specs.Rows.{Row, table_with, front_of}

@@ -1,4 +1,4 @@
-use Rattle.std.proofs.Common.{◌≡◌, ◌+◌, ◌*◌, ◌<◌, length, ℤ, pos, ◌+ℤ◌, sym, ap, ◌∙◌, arith, w32, SFits, rules}
+use Rattle.std.proofs.Common.{◌+◌, ◌*◌, ◌<◌, length, ℤ, pos, ◌+ℤ◌, ap, ◌∙◌, arith, w32, SFits, rules}
 use Rattle.rows.specs.Rows.{floored, negatives}
 use Rattle.std.proofs.lemmas.Int.{to_z-of_z}
 use Rattle.rows.proofs.Laid.{row_laid}

@@ -1,4 +1,4 @@
-use Rattle.std.proofs.Common.{◌≡◌, ◌≤◌, get_or, ℤ, pos, ◌-ℤ◌, neg_ℤ, nat_abs, refl, ◌∙◌, arith, w32, SFits, to_z, of_z, rules}
+use Rattle.std.proofs.Common.{◌≡◌, ◌≤◌, get_or, ℤ, pos, ◌-ℤ◌, neg_ℤ, nat_abs, arith, w32, to_z, of_z}
 use Rattle.std.proofs.lemmas.Int.{ints}
 use Rattle.rows.specs.Rows.{turn}
 use Rattle.rows.proofs.Words.{copied_more, copied_all}

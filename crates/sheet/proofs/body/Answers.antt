@@ -1,4 +1,4 @@
-use Rattle.std.proofs.Common.{◌≡◌, length, pos, ap, ◌∙◌, arith, rules}
+use Rattle.std.proofs.Common.{◌≡◌, length, pos, ap, ◌∙◌, rules}
 use lib.ListN.{length-replicate}
 use Rattle.text.proofs.Steps.{err_is}
 use Rattle.opb.proofs.Narrow.{narrow_price}

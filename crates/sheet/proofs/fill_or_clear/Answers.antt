@@ -1,4 +1,4 @@
-use Rattle.std.proofs.Common.{◌≡◌, ℕ, length, replicate, pos, sym, refl, ap, ◌∙◌, rules}
+use Rattle.std.proofs.Common.{◌≡◌, ℕ, length, replicate, pos, ap, ◌∙◌, rules}
 use Rattle.sheet.proofs.fill_or_clear.Goals as goal
 
 pub read_text-requires : goal.read_text-requires

@@ -1,5 +1,5 @@
 use Rattle.std.proofs.Common.{sym, refl}
-use Rattle.text.proofs.Steps.{step_goes, step_stops, step_give, step_well, step_taken, step_left, err_is}
+use Rattle.text.proofs.Steps.{step_goes, step_stops, step_give, step_well, step_taken, err_is}
 use Rattle.sheet.proofs.price.Goals as goal
 
 pub returns-in_err-sum : goal.returns-in_err-sum

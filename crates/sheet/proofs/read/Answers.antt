@@ -1,4 +1,4 @@
-use Rattle.std.proofs.Common.{◌≡◌, sym, refl, ap, ◌∙◌, rules}
+use Rattle.std.proofs.Common.{refl}
 use Rattle.text.proofs.Steps.{err_is}
 use Rattle.sheet.proofs.Whole.{exactly}
 use Rattle.sheet.proofs.read.Goals as goal

@@ -1,4 +1,3 @@
-use Rattle.std.proofs.Common.{◌≡◌, sym, ◌∙◌, rules}
 use Rattle.text.proofs.Steps.{err_is}
 use Rattle.sheet.proofs.Whole.{too_long, header_wrong, whole_read}
 use Rattle.sheet.proofs.read_text.Goals as goal

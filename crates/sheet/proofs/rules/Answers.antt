@@ -1,7 +1,7 @@
-use Rattle.std.proofs.Common.{◌≡◌, ◌+◌, ◌<◌, ◌≤◌, [], ◌∷◌, ◌++◌, length, sym, refl, ap, ◌∙◌, arith, rules}
+use Rattle.std.proofs.Common.{[], ◌∷◌, ◌++◌, arith, rules}
 use Rattle.text.proofs.Steps.{err_is, going_none, going_more, going_less}
 use Rattle.opb.proofs.Narrow.{rule_narrow}
-use Rattle.sheet.proofs.Turns.{so_far_none, so_far_more, next_goes, next_stops, rule_onward, open_end, rules_break, rules_few, rules_end}
+use Rattle.sheet.proofs.Turns.{so_far_none, so_far_more, next_goes, rule_onward, open_end, rules_break, rules_few, rules_end}
 use Rattle.sheet.proofs.rules.Goals as goal
 
 pub returns-in_err-rule : goal.returns-in_err-rule

@@ -1,4 +1,4 @@
-use Rattle.std.proofs.Common.{ℕ, List, string_bytes, ap, ◌∙◌, ap₂}
+use Rattle.std.proofs.Common.{ℕ, string_bytes, ap, ◌∙◌, ap₂}
 use Rattle.table.specs.Layout.{parts_of, rules_of}
 use Rattle.statement.specs.Statement.{price_word, holdings_line, holdings_text}
 use Rattle.notation.proofs.Texts.{made_as}

@@ -1,4 +1,4 @@
-use Rattle.std.proofs.Common.{◌≡◌, ℕ, ◌-◌, List, ◌++◌, length, replicate, string_bytes, string_len, decimal, ap, ◌∙◌, ap₂, arith}
+use Rattle.std.proofs.Common.{◌≡◌, ℕ, ◌-◌, List, ◌++◌, length, replicate, string_bytes, decimal, ap, ◌∙◌, ap₂, arith}
 use Rattle.notation.proofs.Texts.{made_as}
 use Rattle.statement.specs.Statement.{right_text}
 use Rattle.statement.proofs.right.Goals as goal

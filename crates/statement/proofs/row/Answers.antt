@@ -3,7 +3,6 @@ use Rattle.table.specs.Layout.{degree}
 use Rattle.table.specs.Meaning.{reached}
 use Rattle.board.specs.Board.{choice, judged}
 use Rattle.board.specs.declared.words.Judgement.{Judgement}
-use Rattle.notation.specs.Text.{rule_text}
 use Rattle.statement.specs.Statement.{right_text, verdict_word, row_line, row_text}
 use Rattle.notation.proofs.Texts.{made_as}
 use Rattle.statement.proofs.row.Goals as goal

@@ -2,7 +2,7 @@ use Rattle.std.proofs.Common.{ℕ, List, string_bytes, ap, ◌∙◌, ap₂}
 use Rattle.table.specs.Layout.{parts_of, rules_of}
 use Rattle.board.specs.Board.{choice}
 use Rattle.notation.specs.Text.{literals_text}
-use Rattle.statement.specs.Statement.{holdings_text, rows_text, price_text, verdict_text, statement_lines, statement_text}
+use Rattle.statement.specs.Statement.{holdings_text, rows_text, price_text, statement_lines, statement_text}
 use Rattle.notation.proofs.Texts.{made_as}
 use Rattle.statement.proofs.statement.Goals as goal
 

@@ -1,4 +1,4 @@
-use Rattle.std.proofs.Common.{ℕ, eqb, List, ◌++◌, string_bytes, codes, decimal, sym, ap, ◌∙◌, ap₂}
+use Rattle.std.proofs.Common.{ℕ, eqb, ◌++◌, string_bytes, codes, decimal, sym, ap, ◌∙◌, ap₂}
 use Rattle.std.proofs.lemmas.Bool.{ne_eqb, cond-false}
 use Rattle.table.specs.Layout.{rules_of}
 use Rattle.board.specs.Board.{choice}

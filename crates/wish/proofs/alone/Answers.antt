@@ -1,4 +1,4 @@
-use Rattle.std.proofs.Common.{◌≡◌, sym, refl, ap, ◌∙◌, w32, SFits, rules}
+use Rattle.std.proofs.Common.{refl, w32, SFits, rules}
 use Rattle.std.proofs.lemmas.Int.{to_z-of_z}
 use Rattle.text.proofs.Steps.{step_goes, step_stops, step_give, step_well, step_fault, err_is}
 use Rattle.lines.proofs.Parts.{rule_at}

@@ -1,4 +1,3 @@
-use Rattle.std.proofs.Common.{◌≡◌, sym, refl, ap, ◌∙◌, rules}
 use Rattle.text.proofs.Steps.{err_is}
 use Rattle.wish.proofs.Exactly.{too_long, whole_read}
 use Rattle.wish.proofs.read_alone.Goals as goal

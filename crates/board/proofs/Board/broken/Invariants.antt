@@ -1,7 +1,5 @@
-use Rattle.std.proofs.Common.{◌≡◌, ◌≤◌, cond, ltb}
+use Rattle.std.proofs.Common.{◌≡◌, ◌≤◌}
 use Rattle.rules.specs.Sum.{total}
-use Rattle.table.specs.Layout.{degree}
-use Rattle.table.specs.Meaning.{reached}
 use Rattle.board.specs.Board.{choice, is_broken}
 use Rattle.board.proofs.Board.broken.Given as goal
 

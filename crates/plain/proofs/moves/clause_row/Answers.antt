@@ -1,8 +1,7 @@
-use Rattle.std.proofs.Common.{◌≡◌, ◌<◌, ◌≢◌, length, pos, sym, ap, ◌∙◌, inl, inr, arith, length-set, w32, SFits, rules, below_more}
+use Rattle.std.proofs.Common.{◌<◌, length, pos, sym, ap, ◌∙◌, inl, inr, arith, length-set, w32, SFits, rules, below_more}
 use Rattle.std.proofs.lemmas.List.{get_or-set_same, get_or-set_other, get_or_past}
 use Rattle.std.proofs.lemmas.Int.{to_z-of_z}
 use Rattle.std.proofs.lemmas.Bool.{cases_lt}
-use Rattle.rules.specs.Rule.{marked}
 use Rattle.rules.specs.declared.Mark.TheVariants.{Free}
 use Rattle.backtrack.specs.Clause.{refuted}
 use Rattle.plain.proofs.moves.clause_row.Goals as goal

@@ -1,4 +1,4 @@
-use Rattle.std.proofs.Common.{◌≡◌, ◌*◌, ◌^◌, ◌≤◌}
+use Rattle.std.proofs.Common.{◌≡◌, ◌*◌, ◌≤◌}
 use Rattle.rules.specs.Rule.{at, marked, open_sum}
 use Rattle.rules.proofs.reach.sum_left.Given as goal
 

@@ -1,4 +1,4 @@
-use Rattle.std.proofs.Common.{refl, arith, rules}
+use Rattle.std.proofs.Common.{arith}
 use borrow.Author.Tests.{clash}
 use Rattle.store.proofs.assume.repeats.Goals as goal
 

@@ -1,4 +1,4 @@
-use Rattle.std.proofs.Common.{◌≡◌, ◌+◌, ◌≤◌, nat_abs, sym, ap, ◌∙◌, arith, w32, SFits, rules}
+use Rattle.std.proofs.Common.{◌≡◌, ◌+◌, ◌≤◌, nat_abs, sym, arith, rules}
 use Rattle.rules.proofs.Sum.{total_more, total_start}
 use Rattle.try_texts.specs.Outcomes.{word}
 use Rattle.try_texts.proofs.outcome.sizes.Goals as goal

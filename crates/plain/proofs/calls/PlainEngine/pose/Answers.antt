@@ -1,4 +1,4 @@
-use Rattle.std.proofs.Common.{true, sym, refl, ap, arith}
+use Rattle.std.proofs.Common.{true, refl, ap, arith}
 use Rattle.engine.specs.Questions.{posed}
 use Rattle.backtrack.specs.Walk.{left}
 use Rattle.backtrack.proofs.Left.{left_within}

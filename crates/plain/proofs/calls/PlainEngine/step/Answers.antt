@@ -1,6 +1,6 @@
 use Rattle.std.proofs.Common.{refl, inl, inr}
 use Rattle.plain.specs.Keeping.{fields}
-use Rattle.plain.specs.Stepping.{ready_turned, answered_turned, ready_deeper, answered_deeper, answered_yes, answered_no}
+use Rattle.plain.specs.Stepping.{ready_turned, answered_turned, ready_deeper, answered_deeper, answered_no}
 use Rattle.plain.proofs.calls.PlainEngine.step.Goals as goal
 
 pub invariant_of-self : goal.invariant_of-self

@@ -1,4 +1,4 @@
-use Rattle.std.proofs.Common.{◌≡◌, refl, ap, rules}
+use Rattle.std.proofs.Common.{refl}
 use Rattle.plain.specs.Keeping.{fields, ready_same}
 use Rattle.plain.proofs.calls.PlainRuleHolder.add.Goals as goal
 

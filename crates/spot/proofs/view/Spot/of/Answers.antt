@@ -1,5 +1,5 @@
-use Rattle.std.proofs.Common.{arith, rules}
-use Rattle.spot.proofs.Lines.{Counted, counted_end, counted_more}
+use Rattle.std.proofs.Common.{arith}
+use Rattle.spot.proofs.Lines.{counted_end, counted_more}
 use Rattle.spot.proofs.view.Spot.of.Goals as goal
 use Rattle.spot.proofs.view.Spot.of.Goals.{then-text-at-eq10, else-text-at-eq10}
 

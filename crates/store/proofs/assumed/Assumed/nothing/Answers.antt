@@ -1,4 +1,4 @@
-use Rattle.std.proofs.Common.{refl, zero-le, arith}
+use Rattle.std.proofs.Common.{refl, arith}
 use Rattle.store.proofs.Distinct.{free_marks}
 use Rattle.store.proofs.assumed.Assumed.nothing.Goals as goal
 

@@ -1,4 +1,4 @@
-use Rattle.std.proofs.Common.{◌≡◌, ℕ, ◌+◌, ◌<◌, ◌≤◌, length, take, sym, refl, ap, ◌∙◌, subst, le_antisymm, arith, length-set, rules, below_more}
+use Rattle.std.proofs.Common.{◌≡◌, ◌+◌, length, take, sym, refl, ap, ◌∙◌, subst, le_antisymm, arith, length-set, below_more}
 use Rattle.std.proofs.lemmas.List.{take_all}
 use Rattle.rules.specs.Terms.{only}
 use Rattle.engine.specs.Held.{Every}

@@ -1,4 +1,4 @@
-use Rattle.std.proofs.Common.{sym, refl, ap, ◌∙◌, arith}
+use Rattle.std.proofs.Common.{sym, refl, ap, arith}
 use borrow.Author.Tests.{clash}
 use Rattle.store.proofs.Views.{raise_needs, raise_has, raised_row, with_rules}
 use Rattle.store.proofs.keep.Store.raise.Goals as goal

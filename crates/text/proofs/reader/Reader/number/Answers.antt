@@ -1,4 +1,4 @@
-use Rattle.std.proofs.Common.{refl, arith, rules}
+use Rattle.std.proofs.Common.{refl, rules}
 use Rattle.text.proofs.Made.{shows, number_behind, number_made}
 use Rattle.text.proofs.Steps.{step_goes, step_stops, step_from, seen_err}
 use Rattle.text.proofs.reader.Reader.number.Goals as goal

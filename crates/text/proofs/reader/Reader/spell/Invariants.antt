@@ -1,4 +1,3 @@
-use Rattle.std.proofs.Common.{◌≡◌, ℕ, drop}
 use Rattle.text.proofs.Spelling.{Spelling}
 use Rattle.text.proofs.reader.Reader.spell.Given as goal
 
