@@ -1,5 +1,5 @@
 -- What an engine's answer says of the boards of a sheet.
-use Rattle.std.proofs.Common.{◌≡◌, ℕ, ◌<◌, ◌≤◌, Bool, true, false, ◌&&◌, ltb, List, get_or, ℤ, sym, refl, ap, ◌∙◌, subst, arith}
+use Rattle.std.proofs.Common.{◌≡◌, ℕ, ◌<◌, Bool, true, false, ◌&&◌, List, ℤ, sym, refl, ap, ◌∙◌, arith}
 use Rattle.std.proofs.lemmas.Bool.{lt-ltb}
 use Rattle.rules.specs.Rule.{marked, kept, Full as Fully}
 use Rattle.rules.specs.Terms.{coefficient}
@@ -12,7 +12,7 @@ use Rattle.table.specs.Meaning.{Meets, mark, chosen}
 use Rattle.table.proofs.Places.{parts_some, parts_most}
 use Rattle.board.specs.Board.{choice, is_one}
 use Rattle.solve.specs.Loads.{Loadable}
-use Rattle.ledger.specs.View.{held_by, sheet_limits, SameMeaning}
+use Rattle.ledger.specs.View.{held_by, sheet_limits}
 use Rattle.ledger.specs.Reading.{same_meaning}
 
 abbrev AllFine : List ℤ → Type 0

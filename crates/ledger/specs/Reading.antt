@@ -13,7 +13,7 @@ use Rattle.rules.specs.declared.term.Rule.{Rule as Row}
 use Rattle.rules.proofs.Sum.{total_same}
 use Rattle.engine.specs.Held.{Fits, nth, blank, MeetsRule, BreaksRule, NoneBroken}
 use Rattle.table.specs.declared.place.Place.{Place}
-use Rattle.table.specs.Layout.{parts_of, rules_of, degree, coefficient, declared, stated, range, used, limits_of, Within, Fine}
+use Rattle.table.specs.Layout.{parts_of, rules_of, coefficient, declared, stated, range, used, limits_of, Within, Fine}
 use Rattle.table.specs.Meaning.{chosen}
 use Rattle.table.proofs.Places.{place_coefficient, parts_most, rules_most, degree_most, coefficient_most}
 use Rattle.ledger.specs.View.{sheet_limits, coefficient_at, row_at, rule_at, held_by, SameMeaning}

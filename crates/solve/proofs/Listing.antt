@@ -1,12 +1,12 @@
 -- The terms of a row, one by one.
-use Rattle.std.proofs.Common.{◌≡◌, ℕ, zero, suc, ◌+◌, ◌<◌, ◌≤◌, ◌⊎◌, List, [], ◌∷◌, ◌++◌, length, get_or, take, set, replicate, ℤ, pos, negsuc, sym, refl, ap, ◌∙◌, subst, inl, inr, arith}
-use Rattle.std.proofs.lemmas.List.{get_or-set_same, get_or-set_other, get_or_past, get_or_append_left, get_or_at, length_push, length-append}
+use Rattle.std.proofs.Common.{◌≡◌, ℕ, ◌+◌, ◌<◌, ◌≤◌, List, [], ◌∷◌, ◌++◌, length, get_or, set, replicate, ℤ, pos, sym, ap, ◌∙◌, subst, inl, inr, arith}
+use Rattle.std.proofs.lemmas.List.{get_or-set_same, get_or-set_other, get_or_past, get_or_append_left, get_or_at, length_push}
 use Rattle.std.proofs.lemmas.Bool.{cases_eq, cases_lt}
 use Rattle.rules.specs.Rule.{at, size}
 use Rattle.rules.proofs.Placed.{zeros, placed_push, placed_length}
-use Rattle.rules.specs.Terms.{signed, placed, row_of}
+use Rattle.rules.specs.Terms.{signed, row_of}
 use Rattle.rules.specs.declared.term.Term.{Term as Pair}
-use Rattle.engine.specs.Held.{no_term, variable_of, GoodTerm, Every}
+use Rattle.engine.specs.Held.{no_term, variable_of}
 use Rattle.solve.specs.Listed.{Lists}
 
 -- the terms stand for the row up to a variable

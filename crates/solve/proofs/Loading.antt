@@ -1,17 +1,17 @@
 -- Rules are loaded one by one, and none is refused.
-use Rattle.std.proofs.Common.{◌≡◌, ℕ, zero, suc, ◌+◌, ◌<◌, ◌≤◌, ◌⊎◌, List, [], ◌∷◌, ◌++◌, length, get_or, ℤ, pos, sym, refl, ap, ◌∙◌, subst, inl, inr, arith}
+use Rattle.std.proofs.Common.{◌≡◌, ℕ, ◌+◌, ◌<◌, ◌≤◌, List, [], ◌∷◌, ◌++◌, length, ℤ, pos, sym, ap, ◌∙◌, subst, inl, inr, arith}
 use Rattle.std.proofs.lemmas.List.{get_or_append_left, get_or_at, length_push}
 use Rattle.std.proofs.lemmas.Bool.{cases_eq, cases_lt}
 use Rattle.faults.specs.declared.fault.EngineFault.{EngineFault}
 use Rattle.faults.specs.declared.fault.EngineFault.TheVariants.{Variables, Full, Term, Rule, NoQuestion}
 use Rattle.rules.specs.Rule.{at, size}
-use Rattle.rules.specs.Terms.{coefficient, row_of}
+use Rattle.rules.specs.Terms.{coefficient}
 use Rattle.rules.specs.declared.term.Term.{Term as Pair}
 use Rattle.rules.specs.declared.term.Rule.{Rule as Row}
 use Rattle.engine.specs.Held.{Held, Limits, Fits, nth, blank, variable_of, GoodTerm, Every, rule_of, with_rule, NotAdded}
 use Rattle.engine.specs.Questions.{engine_limits, empty}
 use Rattle.solve.specs.Listed.{Lists}
-use Rattle.solve.specs.Loads.{SameRule, FirstRules, Loadable}
+use Rattle.solve.specs.Loads.{FirstRules, Loadable}
 
 pub no_rules_yet : (h h' : Held) (n : ℕ) → h' ≡ empty n → n ≡ h.variables → FirstRules h 0 h'
 no_rules_yet h h' n e v = record {

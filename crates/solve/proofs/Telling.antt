@@ -1,5 +1,5 @@
 -- What an engine with the same rules answers is true of the holder.
-use Rattle.std.proofs.Common.{◌≡◌, ℕ, ◌<◌, ◌≤◌, List, [], length, Ok, Err, sym, refl, ap, ◌∙◌, subst, arith}
+use Rattle.std.proofs.Common.{◌≡◌, ℕ, ◌<◌, List, [], length, Err, sym, ap, ◌∙◌, subst, arith}
 use Rattle.faults.specs.declared.fault.EngineFault.{EngineFault}
 use Rattle.faults.specs.declared.fault.EngineFault.TheVariants.{Variables, Full, Term, Rule, NoQuestion}
 use Rattle.rules.specs.Rule.{marked, kept, open_sum, Full as Fully}
@@ -9,7 +9,7 @@ use Rattle.rules.specs.declared.Mark.{Mark}
 use Rattle.rules.specs.declared.term.Literal.{Literal}
 use Rattle.rules.specs.declared.term.Rule.{Rule as Row}
 use Rattle.derive.proofs.Marks.{marks_refute}
-use Rattle.engine.specs.Held.{Held, nth, MeetsAll}
+use Rattle.engine.specs.Held.{Held, MeetsAll}
 use Rattle.engine.specs.Questions.{Question, Says, Posed}
 use Rattle.engine.specs.declared.answer.Answer.{Answer}
 use Rattle.engine.specs.declared.answer.Answer.TheVariants.{Going, Yes, No}

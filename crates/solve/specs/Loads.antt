@@ -1,5 +1,5 @@
 -- Rules that are loaded from a holder into an engine, and what the engine's answer says of the holder.
-use Rattle.std.specs.Prelude.{◌≡◌, ℕ, ◌<◌, ◌≤◌, List, length, Ok, Err, Result}
+use Rattle.std.specs.Prelude.{◌≡◌, ℕ, ◌<◌, ◌≤◌, length, Ok, Err, Result}
 use Rattle.faults.specs.declared.fault.EngineFault.{EngineFault}
 use Rattle.rules.specs.Rule.{marked, Full as Fully}
 use Rattle.rules.specs.Terms.{coefficient}

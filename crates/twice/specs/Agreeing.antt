@@ -1,5 +1,5 @@
 -- The kept literals go on agreeing with the question.
-use Rattle.std.specs.Prelude.{◌≡◌, ℕ, length, refl}
+use Rattle.std.specs.Prelude.{◌≡◌, length}
 use Rattle.std.proofs.Common.{sym, ap, subst, ◌∙◌}
 use Rattle.engine.specs.Held.{Held, Every}
 use Rattle.engine.specs.Questions.{Question, none, posed, GoodLiteral}

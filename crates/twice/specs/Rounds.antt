@@ -1,6 +1,5 @@
 -- A question that is asked twice.
-use Rattle.std.specs.Prelude.{◌≡◌, ℕ, ◌+◌, Bool, true, false, cond, List, length}
-use Rattle.rules.specs.declared.term.Literal.{Literal}
+use Rattle.std.specs.Prelude.{◌≡◌, ℕ, ◌+◌, Bool, cond, length}
 use Rattle.engine.specs.Held.{Held, Every}
 use Rattle.engine.specs.Questions.{Question, none, posed, GoodLiteral}
 use Rattle.store.specs.Assumes.{assumed_in}

@@ -1,5 +1,4 @@
 use Rattle.std.proofs.Common.{subst}
-use Rattle.engine.specs.declared.answer.Answer.{Answer}
 use Rattle.ledger.specs.View.{held_by}
 use Rattle.solve.specs.Loads.{Tells, Took}
 use Rattle.finder.proofs.Boards.{sheet_loads, board_meets, no_board}

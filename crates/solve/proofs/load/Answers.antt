@@ -1,4 +1,4 @@
-use Rattle.std.proofs.Common.{◌≡◌, ℕ, length, Ok, Err, sym, refl, ap, ◌∙◌, subst, le_antisymm, arith}
+use Rattle.std.proofs.Common.{◌≡◌, ℕ, Ok, sym, refl, ◌∙◌, subst, le_antisymm, arith}
 use Rattle.engine.specs.Held.{NotAdded}
 use Rattle.solve.specs.Listed.{Lists}
 use Rattle.solve.specs.Loads.{FirstRules}

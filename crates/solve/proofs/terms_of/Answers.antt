@@ -1,4 +1,4 @@
-use Rattle.std.proofs.Common.{◌≡◌, ◌+◌, ◌<◌, ◌≤◌, length, get_or, take, pos, nat_abs, sym, refl, ap, ◌∙◌, subst, arith, length-set, w32, SFits, rules}
+use Rattle.std.proofs.Common.{◌≡◌, ◌+◌, length, get_or, take, pos, nat_abs, sym, refl, ap, ◌∙◌, subst, arith, length-set, w32, SFits, rules}
 use Rattle.std.proofs.lemmas.List.{take_more_set}
 use Rattle.std.proofs.lemmas.Int.{to_z-of_z}
 use Rattle.rules.specs.Rule.{at}

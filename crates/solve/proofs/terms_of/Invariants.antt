@@ -1,5 +1,4 @@
 use Rattle.std.proofs.Common.{◌≡◌, ◌≤◌, length, take}
-use Rattle.solve.specs.Listed.{Lists}
 use Rattle.solve.proofs.Listing.{Front}
 use Rattle.solve.proofs.terms_of.Given as goal
 
