@@ -4,7 +4,7 @@ ghost use Rattle.engine.specs.Questions.{engine_limits, empty, none, Stepped};
 ghost use Rattle.store.specs.View.{held_in};
 ghost use Rattle.plain.specs.Steps.{Adds, BrokenHere, Walked, asked_by};
 ghost use Rattle.store.proofs.Views.{held_fits};
-ghost use Rattle.std.proofs.Common.{rules, arith};
+ghost use Rattle.std.proofs.Common.{rules};
 ghost use Rattle.plain.specs.Stepping;
 
 use super::moves::{any_opposes, clause_row};
@@ -41,9 +41,9 @@ impl RuleHolder for Plain {
 
     ghost adds = { Adds };
 
-    ghost few = { first_of (Prim.search rules, Prim.grind (arith, Self.row.coded.inj)) };
+    ghost few = { Prim.search rules };
 
-    ghost room = { first_of (Prim.search rules, Prim.grind (arith, Self.row.coded.inj)) };
+    ghost room = { Prim.search rules };
 
     ghost fits = { λ s k l. held_fits s.store k l };
 
@@ -91,15 +91,15 @@ impl Engine for Plain {
 
     ghost sound = { λ _. Unit {0} };
 
-    ghost limits = { first_of (Prim.search rules, Prim.grind (arith, Self.row.coded.inj)) };
+    ghost limits = { Prim.search rules };
 
     ghost within = { λ s sound. Stepping.within s };
 
-    ghost add_closes = { first_of (Prim.search rules, Prim.grind (arith, Self.row.coded.inj)) };
+    ghost add_closes = { Prim.search rules };
 
-    ghost add_refused = { first_of (Prim.search rules, Prim.grind (arith, Self.row.coded.inj)) };
+    ghost add_refused = { Prim.search rules };
 
-    ghost add_sound = { first_of (Prim.search rules, Prim.grind (arith, Self.row.coded.inj)) };
+    ghost add_sound = { Prim.search rules };
 
     fn begin(&mut self, variables: usize) -> Result<(), EngineFault> {
         if variables == 0 || WIDTH < variables {
