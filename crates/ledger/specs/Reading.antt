@@ -50,6 +50,13 @@ outer T k i l = cond-false (nat_lt i 40) (coefficient T k i) (pos 0) (le-ltb i 4
 pub count_held : (T : List ℤ) → length (held_by T).rules ≡ rules_of T
 count_held T = length-map-range_with_len (rule_at T) 0 (rules_of T)
 
+-- there are few variables, and the rules are no more than the room
+pub held_few : (T : List ℤ) → ((w : ℕ) → w < 2668 → Fine T w) → (held_by T).variables ≤ 80
+held_few T fine = omega (arith, parts_most T fine)
+
+pub held_room : (T : List ℤ) → ((w : ℕ) → w < 2668 → Fine T w) → length (held_by T).rules ≤ sheet_limits.room
+held_room T fine = omega (arith, count_held T, rules_most T fine)
+
 pub nth_held : (T : List ℤ) (k : ℕ) → k < rules_of T → nth (held_by T).rules k ≡ rule_at T k
 nth_held T k l = get_or-map-range_with_len (rule_at T) 0 (rules_of T) k k blank l (omega arith)
 

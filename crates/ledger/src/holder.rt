@@ -1,9 +1,7 @@
 // The sheet as a holder of rules.
 ghost use Rattle.ledger.specs.View.{held_by, sheet_limits};
 ghost use Rattle.ledger.specs.Taking.{Adds};
-ghost use Rattle.std.proofs.Common.{arith};
-ghost use Rattle.table.proofs.Places.{parts_most, rules_most};
-ghost use Rattle.ledger.specs.Reading.{count_held, held_fits};
+ghost use Rattle.ledger.specs.Reading.{held_few, held_room, held_fits};
 
 use super::rows::{breaks, rule_at, write_row};
 use super::state::Sheet;
@@ -26,9 +24,9 @@ impl RuleHolder for Sheet {
 
     ghost adds = { Adds };
 
-    ghost few = { λ s. omega (arith, parts_most s.words s.fine) };
+    ghost few = { λ s. held_few s.words s.fine };
 
-    ghost room = { λ s. omega (arith, count_held s.words, rules_most s.words s.fine) };
+    ghost room = { λ s. held_room s.words s.fine };
 
     ghost fits = { λ s k l. held_fits s.words s.fine k l };
 
