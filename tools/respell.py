@@ -20,7 +20,7 @@ OTHER = {
     "New-rule": "NewRuleAt",  # `NewRule` is a type of src/
 }
 
-# names of std that a definition of the same name must not catch
+# files of a function's proof, where a step may have the name of a definition
 ANSWERS = ("Answers.antt", "Invariants.antt", "Proof.antt")
 NAME = re.compile(r"(?<![A-Za-z0-9_'\u2115\u2124\u00b7+-])[A-Za-z][A-Za-z0-9_']*(?:-[A-Za-z0-9_']+)+(?![A-Za-z0-9_'+-])")
 SIGNATURE = re.compile(r"^\s*(?:(?:abbrev|unfoldable|pub)\s+)*(?:(record|data|module)\s+)?([A-Za-z][A-Za-z0-9_'-]*)(\s.*)?$")
