@@ -26,6 +26,7 @@ weightless_mark (negsuc c) = One
 abbrev pub AssumesWeighted : (ℕ → ℤ) → List Literal → Type 0
 AssumesWeighted price ls = (i : ℕ) → i < 80 → only ls i ≡ weightless_mark (price i)
 
+-- A lower bound on the price, its floor, rises by the cores of rules that are broken where all weighted literals are false.
 -- Where the weighted literals are assumed false, every literal of the core weighs something.
 abbrev pub FloorCoresWeigh : Type 0
 FloorCoresWeigh = (r : Rule) (ls : List Literal) (k : Rule) (price : ℕ → ℤ) → CoreIs r ls k → AssumesWeighted price ls → AllWeigh k price

@@ -1,24 +1,17 @@
--- The division, the counts, the rounds and the new price that are worked out.
+-- The rounds and the new price that are worked out, with the division and the counts that stand in their crates.
 use Rattle.std.proofs.Common.{◌≡◌, ℕ, zero, suc, ◌+◌, ◌*◌, ◌<◌, ◌≤◌, Bool, true, false, cond, not, eqb, List, [], ◌∷◌, get_or, ℤ, pos, sym, refl, ap, ◌∙◌, subst, arith}
 use Rattle.rules.specs.Sum.{total}
 use Rattle.rules.specs.Rule.{at, size}
-use Rattle.derive.specs.Derive.{divided}
+use Rattle.derive.proofs.Derive.{worked_division}
 use Rattle.counting.specs.Counting.{sum_in, sum_outside, number_in, Least}
 use Rattle.counting.specs.Gain.{heavy, Smallest}
 use Rattle.counting.specs.Rounds.{Round}
 use Rattle.counting.proofs.Counting.{clash, greatest_first}
+use Rattle.counting.proofs.Worked.{worked_counts}
 use Rattle.counting.proofs.Rounds.{heavy_weighs}
 use Rattle.reform_laws.specs.Reform.{new_weight, less}
 use Rattle.reform_laws.proofs.Fresh.{fresh_out}
-use Rattle.worked.specs.Derived.{WorkedDivision, three_and_ones, core, price, weights, WorkedRounds, counted, WorkedPrice, WorkedDerivations}
-
-each : (i : ℕ) → divided 3 (at (pos 3 ∷ pos 2 ∷ []) i) ≡ at (pos 1 ∷ pos 1 ∷ []) i
-each zero = refl
-each (suc zero) = refl
-each (suc (suc i)) = refl
-
-division : WorkedDivision
-division = record { coefficients = each; degree = refl }
+use Rattle.worked.specs.Derived.{core, price, weights, WorkedRounds, counted, WorkedPrice, WorkedDerivations}
 
 -- ---- what holds of the first five variables and of all others
 by_five : (P : ℕ → Type 0) → P 0 → P 1 → P 2 → P 3 → P 4 → ((i : ℕ) → P (suc (suc (suc (suc (suc i)))))) → (i : ℕ) → P i
@@ -54,30 +47,6 @@ module _ (a : ℕ → ℤ) (d : ℕ) (y : ℕ → Bool) (p : List Bool) (last : 
         left = λ i l. (c i).left;
         tight = tight;
       }))
-
-five : Least 80 three_and_ones 5 (λ i. true) 3
-unfolding total
-five = chosen three_and_ones 5 (λ i. true) (true ∷ true ∷ true ∷ []) 1
-    (by_five (Checks three_and_ones 5 (λ i. true) (true ∷ true ∷ true ∷ []) 1)
-    (record { within = λ e. no e; taken = λ e. omega arith; left = λ e f. no f })
-    (record { within = λ e. no e; taken = λ e. omega arith; left = λ e f. no f })
-    (record { within = λ e. no e; taken = λ e. omega arith; left = λ e f. no f })
-    (record { within = λ e. no e; taken = λ e. nope e; left = λ e f. omega arith })
-    (record { within = λ e. no e; taken = λ e. nope e; left = λ e f. omega arith })
-    (λ i. record { within = λ e. no e; taken = λ e. nope e; left = λ e f. omega arith }))
-    (omega arith) (omega arith) 3 refl
-
-six : Least 80 three_and_ones 6 (λ i. true) 4
-unfolding total
-six = chosen three_and_ones 6 (λ i. true) (true ∷ true ∷ true ∷ true ∷ []) 1
-    (by_five (Checks three_and_ones 6 (λ i. true) (true ∷ true ∷ true ∷ true ∷ []) 1)
-    (record { within = λ e. no e; taken = λ e. omega arith; left = λ e f. no f })
-    (record { within = λ e. no e; taken = λ e. omega arith; left = λ e f. no f })
-    (record { within = λ e. no e; taken = λ e. omega arith; left = λ e f. no f })
-    (record { within = λ e. no e; taken = λ e. omega arith; left = λ e f. no f })
-    (record { within = λ e. no e; taken = λ e. nope e; left = λ e f. omega arith })
-    (λ i. record { within = λ e. no e; taken = λ e. nope e; left = λ e f. omega arith }))
-    (omega arith) (omega arith) 4 refl
 
 -- ---- the rounds of the core
 count_3 : Least 80 core 7 (heavy core weights 3) 3
@@ -197,4 +166,4 @@ unfolding total
 reformulated = record { fresh = refl; constant = refl; new_weights = λ i l. new_price_at i }
 
 pub derivations : WorkedDerivations
-derivations = record { division = division; counts = record { five = five; six = six }; rounds = rounds; price = reformulated }
+derivations = record { division = worked_division; counts = worked_counts; rounds = rounds; price = reformulated }

@@ -1,24 +1,11 @@
 -- Derivations that are worked out: a division, two counts, and one core from its rounds to the new price.
-use Rattle.std.specs.Prelude.{◌≡◌, ℕ, ◌+◌, ◌-◌, ◌*◌, ◌<◌, true, not, [], ◌∷◌, ℤ, pos, ◌==◌}
+use Rattle.std.specs.Prelude.{◌≡◌, ℕ, ◌+◌, ◌-◌, ◌*◌, ◌<◌, not, [], ◌∷◌, ℤ, pos, ◌==◌}
 use Rattle.rules.specs.Rule.{at}
-use Rattle.derive.specs.Derive.{rounded, divided}
-use Rattle.counting.specs.Counting.{sum_outside, count_row, Least}
+use Rattle.derive.specs.Derive.{WorkedDivision}
+use Rattle.counting.specs.Counting.{sum_outside, count_row, WorkedCounts}
 use Rattle.counting.specs.Gain.{heavy}
 use Rattle.counting.specs.Rounds.{weight_under, Round, FirstGreatest}
 use Rattle.reform_laws.specs.Reform.{fresh_needed, new_weight}
-
--- 3 x1 + 2 x2 >= 4 divided by 3 is x1 + x2 >= 2
-pub record WorkedDivision : Type 0 where
-  pub coefficients : (i : ℕ) → divided 3 (at (pos 3 ∷ pos 2 ∷ []) i) ≡ at (pos 1 ∷ pos 1 ∷ []) i
-  pub degree : rounded 3 4 ≡ 2
-
--- the coefficients 3, 1, 1, 1 need three for the degree 5 and four for the degree 6
-abbrev pub three_and_ones : ℕ → ℤ
-three_and_ones = at (pos 3 ∷ pos 1 ∷ pos 1 ∷ pos 1 ∷ [])
-
-pub record WorkedCounts : Type 0 where
-  pub five : Least 80 three_and_ones 5 (λ i. true) 3
-  pub six : Least 80 three_and_ones 6 (λ i. true) 4
 
 -- the core 3 x1 + 3 x2 + 2 x3 + x4 + x5 >= 7, with the weights 7, 3, 9, 6, 7
 abbrev pub core : ℕ → ℤ
