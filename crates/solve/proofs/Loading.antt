@@ -11,7 +11,7 @@ use Rattle.rules.specs.declared.term.Rule.{Rule as Row}
 use Rattle.engine.specs.Held.{Held, Limits, Fits, nth, blank, variable_of, GoodTerm, Every, rule_of, with_rule, NotAdded}
 use Rattle.engine.specs.Questions.{engine_limits, empty}
 use Rattle.solve.specs.Listed.{Lists}
-use Rattle.solve.specs.Loads.{FirstRules, Loadable}
+use Rattle.solve.specs.Loads.{FirstRules, Loadable, Stopped}
 
 pub no_rules_yet : (h h' : Held) (n : ℕ) → h' ≡ empty n → n ≡ h.variables → FirstRules h 0 h'
 no_rules_yet h h' n e v = record {
@@ -75,3 +75,18 @@ module _ (l : Limits) (h h' : Held) (k : ℕ) (r : Row) (ts : List Pair) (first 
   not_refused (Variables n) x = x
   not_refused (Rule n) x = x
   not_refused NoQuestion x = x
+
+-- a rule that is refused stops the loading
+pub stopped_rule : (h h' h'' : Held) (k : ℕ) (r : Row) (ts : List Pair) → FirstRules h k h' → k < length h.rules → r ≡ nth h.rules k → Lists r.coefficients ts
+    → (e : EngineFault) → NotAdded engine_limits h' ts r.degree e → h'' ≡ h' → Stopped h e h''
+stopped_rule h h' h'' k r ts first there is lists e refused same =
+    inr (
+      k,
+      ts,
+      record {
+        there = there;
+        first = subst (FirstRules h k) (sym same) first;
+        lists = subst (λ (x : Row). Lists x.coefficients ts) is lists;
+        refused = subst (λ (x : Held). NotAdded engine_limits x ts (nth h.rules k).degree e) (sym same) (subst (λ (x : Row). NotAdded engine_limits h' ts x.degree e) is refused);
+      },
+    )

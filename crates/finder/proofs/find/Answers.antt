@@ -5,7 +5,7 @@ use Rattle.finder.proofs.Boards.{sheet_loads, board_meets, no_board}
 use Rattle.finder.proofs.find.Goals as goal
 
 pub unreachable-requires : goal.unreachable-requires
-unreachable-requires g c = c.in-Err.ensures (sheet_loads c.args.sheet.now.words c.args.sheet.now.fine)
+unreachable-requires g c = c.in-Err.ensures.0 (sheet_loads c.args.sheet.now.words c.args.sheet.now.fine)
 
 pub returns-in-Yes : goal.returns-in-Yes
 returns-in-Yes g c =

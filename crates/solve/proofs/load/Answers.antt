@@ -2,7 +2,7 @@ use Rattle.std.proofs.Common.{◌≡◌, ℕ, Ok, sym, refl, ◌∙◌, subst, l
 use Rattle.engine.specs.Held.{NotAdded}
 use Rattle.solve.specs.Listed.{Lists}
 use Rattle.solve.specs.Loads.{FirstRules}
-use Rattle.solve.proofs.Loading.{no_rules_yet, one_more_rule, not_refused}
+use Rattle.solve.proofs.Loading.{no_rules_yet, one_more_rule, not_refused, stopped_rule}
 use Rattle.solve.proofs.load.Goals as goal
 
 pub loop-k-init : goal.loop-k-init
@@ -41,6 +41,9 @@ returns-in-Err g c =
     let copied = c.in_ok-rule.ensures in
     let refused = subst (λ l. NotAdded l h' ts rule.degree c.in-Err.fault) g.met.E.Engine.limits c.in-Err.ensures.added.0 in
     record {
-      loads = λ can. not_refused g.H.RuleHolder.limits h h' k rule ts c.loop-k.invariant.0 copied.0 (g.met.H.RuleHolder.room c.args.holder.now) (g.met.H.RuleHolder.fits c.args.holder.now k copied.0) copied.1 lists can c.in-Err.fault refused;
+      loads = (
+        (λ can. not_refused g.H.RuleHolder.limits h h' k rule ts c.loop-k.invariant.0 copied.0 (g.met.H.RuleHolder.room c.args.holder.now) (g.met.H.RuleHolder.fits c.args.holder.now k copied.0) copied.1 lists can c.in-Err.fault refused),
+        stopped_rule h h' (g.E.RuleHolder.held c.add.new.self) k rule ts c.loop-k.invariant.0 copied.0 copied.1 lists c.in-Err.fault refused c.in-Err.ensures.added.1,
+      );
       sound = λ e. absurd (let z : ◌≡◌ {A = ℕ} 0 1 = cc in omega arith);
     }

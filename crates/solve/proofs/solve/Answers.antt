@@ -12,6 +12,5 @@ returns-in-Ok g c =
     )
 
 pub returns-in-Err : goal.returns-in-Err
-returns-in-Err g c =
-    λ can. always_posed g.E.Engine.pledge (g.E.RuleHolder.held c.load.new.engine) (g.E.RuleHolder.held c.ask.new.engine) (g.E.Engine.question c.load.new.engine) (g.E.Engine.question c.ask.new.engine)
-    c.in-Err.fault (c.in-Err.ensures.asked (c.in_ok-load.ensures.sound refl))
+returns-in-Err g c = absurd (always_posed g.E.Engine.pledge (g.E.RuleHolder.held c.load.new.engine) (g.E.RuleHolder.held c.ask.new.engine) (g.E.Engine.question c.load.new.engine) (g.E.Engine.question c.ask.new.engine)
+    c.in-Err.fault (c.in-Err.ensures.asked (c.in_ok-load.ensures.sound refl)))
