@@ -19,7 +19,7 @@ pub fn refused_sheet(heap: Global, text: &[u8], fault: RunFault) -> Result<Strin
     let head = head(heap, fault)?;
     match fault {
         RunFault::Sheet(fault) => {
-            let excerpt = excerpt(heap, text, fault.refusal().place)?;
+            let excerpt = excerpt(heap, text, Refusal::from(fault).place)?;
             format!(in heap; "{head}{excerpt}")
         }
         _ => Ok(head),
@@ -34,7 +34,7 @@ fn head(heap: Global, fault: RunFault) -> Result<String, AllocError>
         layer,
         number,
         place,
-    } = fault.refusal();
+    } = Refusal::from(fault);
     let words = of_run(fault);
     format!(in heap;
         "the sheet is refused: layer {layer}, number {number}, place {place}\n{words}\n"

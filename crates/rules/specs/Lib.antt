@@ -1,3 +1,4 @@
 pub mod Sum
 pub mod Rule
 pub mod Terms
+pub mod Words

@@ -10,6 +10,7 @@ ghost use Rattle.rules.specs.Rule.{kept};
 
 pub mod reach;
 pub mod term;
+mod words;
 
 // What is known of a part: nothing yet, left out, or taken.
 #[derive(Clone, Copy, PartialEq, Eq, Debug)]

@@ -1,7 +1,8 @@
 // What the terms of a rule can still give together, and the mark that makes a literal true.
-ghost use Rattle.std.specs.Prelude.{◌≡◌, ◌≤◌};
+ghost use Rattle.std.specs.Prelude.{◌≡◌, ◌≤◌, cond};
 ghost use Rattle.rules.specs.Rule.{at, marked, open_sum};
 ghost use Rattle.rules.specs.Terms.{true_mark};
+ghost use Rattle.rules.specs.declared.Mark.TheVariants.{Zero, One};
 
 use super::Mark;
 use super::term::Literal;
@@ -11,11 +12,21 @@ pub fn sum_left(coefficients: &[i32; 80], marks: &[Mark; 80], variables: usize) 
     requires { variables ≤ 80 }
     ensures { result ≡ open_sum variables (at coefficients.now) (marked marks.now) }
 {
-    let mut sum: u64 = 0;
-    for i in 0..variables {
-        sum += u64::from(marks[i].leaves(coefficients[i]));
+    coefficients
+        .iter()
+        .zip(marks)
+        .take(variables)
+        .map(|(coefficient, mark)| u64::from(mark.leaves(*coefficient)))
+        .sum()
+}
+
+// The mark of a part that is taken, where this is true, or left out.
+impl From<bool> for Mark {
+    ghost from_gives = { λ taken r. r ≡ cond taken One Zero };
+
+    fn from(taken: bool) -> Mark {
+        if taken { Mark::One } else { Mark::Zero }
     }
-    sum
 }
 
 impl Literal {
@@ -23,6 +34,6 @@ impl Literal {
     pub fn true_mark(self) -> Mark
         ensures { result ≡ true_mark self }
     {
-        if self.negated { Mark::Zero } else { Mark::One }
+        Mark::from(!self.negated)
     }
 }

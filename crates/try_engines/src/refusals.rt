@@ -15,7 +15,7 @@ fn show<T: Drop>(rt: &HostRuntime, call: &str, res: Result<T, EngineFault>) -> i
                 layer,
                 number,
                 place,
-            } = fault.refusal();
+            } = Refusal::from(fault);
             println!(rt; "{call}: refused {layer} {number} {place}")
         }
     }

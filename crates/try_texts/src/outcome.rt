@@ -50,9 +50,9 @@ impl Outcome {
             Ok(()) => Outcome::Accepted(Summary::of(&table)),
             Err(fault) => {
                 if is_clear(&table) {
-                    Outcome::Refused(fault.refusal())
+                    Outcome::Refused(Refusal::from(fault))
                 } else {
-                    Outcome::Uncleared(fault.refusal())
+                    Outcome::Uncleared(Refusal::from(fault))
                 }
             }
         }

@@ -1,20 +1,20 @@
-use Rattle.std.proofs.Common.{◌≡◌, get_or, pos, arith, w32, SFits, rules}
-use Rattle.std.proofs.lemmas.Int.{to_z-of_z}
-use Rattle.rules.specs.Sum.{total}
-use Rattle.rules.specs.Rule.{at, marked, kept}
-use Rattle.rules.proofs.Sum.{total_more}
+use Rattle.std.proofs.Common.{rules, ◌≤◌, length, take, arith, ◌∙◌}
+use Rattle.std.specs.List.{zip}
+use Rattle.std.proofs.lemmas.Iterator.{YieldsList-from_slice, YieldsList-from_map, YieldsList-from_take, YieldsList-from_zip}
+use Rattle.std.proofs.lemmas.Iterator.Adapters.{fits_from_length, at_most_from_yields_List}
+use Rattle.std.proofs.lemmas.Iterator.Consumers.{sum_from_yields_List}
+use Rattle.rules.proofs.Taken.{gives, taken_length, gives_open}
 use Rattle.rules.proofs.reach.sum_left.Goals as goal
 
-pub loop-i-init : goal.loop-i-init
-unfolding total
-loop-i-init c = search rules
+pub sum-requires-clause-fits : goal.sum-requires-clause-fits
+sum-requires-clause-fits c =
+    let few : length (take c.args.variables (zip c.args.coefficients.now c.args.marks.now)) ≤ 80 = omega (arith, taken_length c.args.coefficients.now c.args.marks.now c.args.variables (omega arith) (omega arith)) in
+    fits_from_length _ _ 80 _
+    (at_most_from_yields_List (YieldsList-from_take c.args.variables (YieldsList-from_zip (YieldsList-from_slice c.args.coefficients.now (cc)) (YieldsList-from_slice c.args.marks.now (cc))) (cc)) few)
+    c.map.ensures.closure (omega arith) (λ x r q k. (search rules, omega (arith, k.met)))
 
-pub loop-i-preserved : goal.loop-i-preserved
-loop-i-preserved c =
-    let a = at c.args.coefficients.now in
-    let m = marked c.args.marks.now in
-    let i = c.loop-i.i in
-    let fit : SFits w32 (get_or c.args.coefficients.now i (pos 0)) = search rules in
-    let gives : c.leaves.result ≡ kept (a i) (m i) = simp to_z-of_z at c.leaves.ensures in
-    let more = total_more (λ j. kept (a j) (m j)) i in
-    (omega arith, omega arith)
+pub returns : goal.returns
+returns c =
+    sum_from_yields_List c.map.result _ c.sum.ensures.ran
+    (YieldsList-from_map _ gives (YieldsList-from_take c.args.variables (YieldsList-from_zip (YieldsList-from_slice c.args.coefficients.now (cc)) (YieldsList-from_slice c.args.marks.now (cc))) (cc)) c.map.ensures.closure (λ x r q k. search rules))
+    ∙ gives_open c.args.coefficients.now c.args.marks.now c.args.variables (omega arith) (omega arith)
