@@ -8,7 +8,7 @@
 mod wide;
 
 use gains::best::best_count_rule;
-use gains::kinds::{Best, Round};
+use gains::kinds::Round;
 use std::io;
 use std::time::{Duration, Instant};
 use wide::Wide;
@@ -36,7 +36,7 @@ fn measure(rt: &HostRuntime, literals: usize, wide: &Wide) -> io::Result<()> {
 // What is kept of a core.
 fn kept(wide: &Wide) -> Round {
     match best_count_rule(&wide.core, &wide.weights) {
-        Best::Kept(kept) => Round {
+        Ok(Some(kept)) => Round {
             weight: kept.weight,
             count: kept.rule.degree,
         },

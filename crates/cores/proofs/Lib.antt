@@ -1,2 +1,1 @@
 pub mod Left
-pub mod Assumed

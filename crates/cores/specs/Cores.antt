@@ -1,5 +1,5 @@
 -- The core of a rule under assumed literals: what is left when every literal that is not assumed false is weakened.
-use Rattle.std.specs.Prelude.{◌≡◌, ℕ, ◌<◌, ◌≤◌, Bool, true, false, not, List, ℤ, pos, negsuc}
+use Rattle.std.specs.Prelude.{◌≡◌, ℕ, ◌<◌, ◌≤◌, Bool, true, false, not, List, ℤ, pos, negsuc, Result, Ok, Err}
 use Rattle.rules.specs.Sum.{total}
 use Rattle.rules.specs.Rule.{size, Broken}
 use Rattle.rules.specs.Terms.{only, coefficient}
@@ -8,8 +8,7 @@ use Rattle.rules.specs.declared.Mark.TheVariants.{Free, Zero, One}
 use Rattle.rules.specs.declared.term.Literal.{Literal}
 use Rattle.rules.specs.declared.term.Rule.{Rule}
 use Rattle.derive.specs.Derive.{Follows, weakened, weakened_degree}
-use Rattle.cores.specs.declared.core_of.Core.{Core}
-use Rattle.cores.specs.declared.core_of.Core.TheVariants.{CannotBeMet, Meetable}
+use Rattle.cores.specs.declared.core_of.CannotBeMet.{CannotBeMet}
 
 -- the literal of a coefficient is false under a mark of its variable
 abbrev pub is_false : ℤ → Mark → Bool
@@ -52,6 +51,7 @@ pub record CoreIs (r : Rule) (ls : List Literal) (k : Rule) : Type 0 where
   pub follows : Follows 80 (coefficient r) r.degree (coefficient k) k.degree
   pub some : Broken 80 (coefficient r) r.degree (only ls) → 0 < k.degree
 
-abbrev pub CoreOf : Rule → List Literal → Core → Type 0
-CoreOf r ls CannotBeMet = sizes 80 (core_row r ls) < core_degree r ls
-CoreOf r ls (Meetable k) = CoreIs r ls k
+-- what comes of a rule: its core, or that its core cannot be met
+abbrev pub CoreOf : Rule → List Literal → Result Rule CannotBeMet → Type 0
+CoreOf r ls (Ok k) = CoreIs r ls k
+CoreOf r ls (Err _) = sizes 80 (core_row r ls) < core_degree r ls

@@ -1,5 +1,5 @@
 // From a rule and the assumed literals to the core.
-ghost use Rattle.std.specs.Prelude.{◌≡◌, ℕ, ◌<◌, ◌≤◌, pos, if◌then◌else◌};
+ghost use Rattle.std.specs.Prelude.{◌≡◌, ℕ, ◌<◌, ◌≤◌, Some, codes, pos, if◌then◌else◌};
 ghost use Rattle.rules.specs.Rule.{at, marked};
 ghost use Rattle.rules.specs.Terms.{only};
 ghost use Rattle.cores.specs.Cores.{is_false, sizes, CoreOf};
@@ -7,15 +7,22 @@ ghost use Rattle.cores.specs.Cores.{is_false, sizes, CoreOf};
 use rules::Mark;
 use rules::reach::sum_left;
 use rules::term::{Literal, Rule, WIDTH};
+use std::error::Error;
+use std::{array, fmt};
 
-// What is left of a rule once every literal that is not assumed false is weakened.
-#[derive(Clone, Copy)]
-pub enum Core {
-    // its coefficients together miss its degree
-    CannotBeMet,
-    // it can be met
-    Meetable(Rule),
+// The coefficients of a rule together miss its degree.
+#[derive(Clone, Copy, PartialEq, Eq, Debug)]
+pub struct CannotBeMet;
+
+impl fmt::Display for CannotBeMet {
+    ghost output = { λ _. Some (codes "cannot be met") };
+
+    fn fmt<W: fmt::Write>(&self, f: &mut fmt::Formatter<W>) -> fmt::Result {
+        write!(f, "cannot be met")
+    }
 }
+
+impl Error for CannotBeMet {}
 
 // The marks under which the literals are true, and no other variable is marked. Of two literals on one variable the first
 // decides.
@@ -23,10 +30,7 @@ fn marks_of(literals: &[Literal]) -> [Mark; 80]
     ensures { (i : ℕ) → i < 80 → marked result i ≡ only literals.now i }
 {
     let mut marks = [Mark::Free; WIDTH];
-    let mut at = literals.len();
-    while 0 < at {
-        at -= 1;
-        let literal = literals[at];
+    for literal in literals.iter().rev() {
         if literal.variable < WIDTH {
             marks[literal.variable] = literal.true_mark();
         }
@@ -60,11 +64,7 @@ fn left_of(coefficient: i32, mark: Mark) -> i32
 fn left_over(coefficients: &[i32; 80], marks: &[Mark; 80]) -> [i32; 80]
     ensures { (i : ℕ) → i < 80 → at result i ≡ (if is_false (at coefficients.now i) (marked marks.now i) then at coefficients.now i else pos 0) }
 {
-    let mut left = [0; WIDTH];
-    for i in 0..WIDTH {
-        left[i] = left_of(coefficients[i], marks[i]);
-    }
-    left
+    array::from_fn(|i| left_of(coefficients[i], marks[i]))
 }
 
 // All coefficients together.
@@ -72,15 +72,14 @@ pub fn sum_of(coefficients: &[i32; 80]) -> u64
     ensures value { result ≡ sizes 80 (at coefficients.now) }
     ensures bound { result ≤ 343597383680 }
 {
-    let mut sum: u64 = 0;
-    for i in 0..WIDTH {
-        sum += u64::from(coefficients[i].unsigned_abs());
-    }
-    sum
+    coefficients
+        .iter()
+        .map(|coefficient| u64::from(coefficient.unsigned_abs()))
+        .sum()
 }
 
 // The core of a rule under the assumed literals.
-pub fn core_of(rule: &Rule, assumed: &[Literal]) -> Core
+pub fn core_of(rule: &Rule, assumed: &[Literal]) -> Result<Rule, CannotBeMet>
     ensures { CoreOf rule.now assumed.now result }
 {
     let marks = marks_of(assumed);
@@ -91,9 +90,9 @@ pub fn core_of(rule: &Rule, assumed: &[Literal]) -> Core
         WIDTH,
     ));
     if sum_of(&coefficients) < lowered {
-        return Core::CannotBeMet;
+        return Err(CannotBeMet);
     }
-    Core::Meetable(Rule {
+    Ok(Rule {
         coefficients,
         degree: lowered as u32,
     })

@@ -3,3 +3,4 @@ pub mod Worked
 pub mod Gain
 pub mod Order
 pub mod Rounds
+pub mod Ranks

@@ -6,30 +6,25 @@ ghost use Rattle.counting.specs.Counting.{GreatestFirst, CountLaw, WorkedCounts}
 ghost use Rattle.counting.specs.Gain.{HeavySuffices};
 
 // Members chosen greatest first, until they reach the degree, are as few as can be.
-pub fn greatest_first_is_least() -> u8
+pub fn greatest_first_is_least()
     ensures { GreatestFirst }
-{
-    0
-}
+{}
 
 // "At least c members are true" follows from a core exactly when c is at most the least number that reaches its degree.
-pub fn count_rules_that_follow() -> u8
+#[tactic(auto, using(crate::proofs::Counting::count_law))]
+pub fn count_rules_that_follow()
     ensures { CountLaw }
-{
-    0
-}
+{}
 
 // No count rule over the core's literals that follows from it gains more than the best one among the literals from some
 // weight on.
-pub fn heavy_literals_suffice() -> u8
+#[tactic(auto, using(crate::proofs::Gain::heavy_suffices))]
+pub fn heavy_literals_suffice()
     ensures { HeavySuffices }
-{
-    0
-}
+{}
 
 // The coefficients 3, 1, 1, 1 need three for the degree 5 and four for the degree 6.
-pub fn counts_worked() -> u8
+#[tactic(auto, using(crate::proofs::Worked::worked_counts))]
+pub fn counts_worked()
     ensures { WorkedCounts }
-{
-    0
-}
+{}

@@ -5,36 +5,31 @@
 ghost use Rattle.derive.specs.Derive.{MarksRefute, ForcesLiteral, Weakening, Division, WorkedDivision};
 
 // A rule that marks break stays broken, and unmet, whatever else is marked.
-pub fn broken_stays_broken() -> u8
+#[tactic(auto, using(crate::proofs::Marks::marks_refute))]
+pub fn broken_stays_broken()
     ensures { MarksRefute }
-{
-    0
-}
+{}
 
 // A literal without which the degree is out of reach is true wherever the rule is met.
-pub fn forced_is_true() -> u8
+#[tactic(auto, using(crate::proofs::Marks::forces_literal))]
+pub fn forced_is_true()
     ensures { ForcesLiteral }
-{
-    0
-}
+{}
 
 // A rule without some of its terms, its degree less their coefficients, follows from it.
-pub fn weakening_follows() -> u8
+#[tactic(auto, using(crate::proofs::Derive::weakening))]
+pub fn weakening_follows()
     ensures { Weakening }
-{
-    0
-}
+{}
 
 // A rule divided by a number, every coefficient and the degree rounded up, follows from it.
-pub fn division_follows() -> u8
+#[tactic(auto, using(crate::proofs::Derive::division))]
+pub fn division_follows()
     ensures { Division }
-{
-    0
-}
+{}
 
 // 3 x1 + 2 x2 >= 4 divided by 3 is x1 + x2 >= 2.
-pub fn division_worked() -> u8
+#[tactic(auto, using(crate::proofs::Derive::worked_division))]
+pub fn division_worked()
     ensures { WorkedDivision }
-{
-    0
-}
+{}

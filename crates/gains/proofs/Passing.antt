@@ -1,5 +1,5 @@
 -- The rounds of a core under a price, one after another.
-use Rattle.std.proofs.Common.{◌≡◌, ℕ, ◌+◌, ◌<◌, ◌≤◌, Bool, true, false, cond, not, eqb, ltb, ℤ, Some, None, Option, sym, refl, ap, ◌∙◌, subst, ap₂, inl, inr, mul-pos, arith}
+use Rattle.std.proofs.Common.{◌≡◌, ℕ, ◌+◌, ◌<◌, ◌≤◌, Bool, true, false, cond, not, eqb, ltb, ℤ, Some, None, Option, Ok, MatchOption, IsSomeAnd, sym, refl, ap, ◌∙◌, subst, ap₂, inl, inr, mul-pos, arith}
 use Rattle.std.proofs.lemmas.Bool.{cases_Bool, ltb-true, ltb-false, eq-eqb, le-ltb}
 use Rattle.rules.specs.Rule.{size}
 use Rattle.rules.specs.Terms.{coefficient}
@@ -14,7 +14,7 @@ use Rattle.counting.proofs.Counting.{count_law}
 use Rattle.counting.proofs.Rounds.{best_first, best_stays, best_changes, weakened_is, all_below, none_beyond, first_greatest, nothing_counted, nothing_left, heavy_of_core}
 use Rattle.gains.specs.declared.kinds.Round.{Round}
 use Rattle.gains.specs.declared.kinds.CountRule.{CountRule}
-use Rattle.gains.specs.Gains.{gain, weights, Lightest, better, BestFrom, Greatest, Found, KeptIs}
+use Rattle.gains.specs.Gains.{gain, weights, Lightest, better, BestFrom, Greatest, Found, KeptIs, BestOf}
 
 module _ (core : Rule) (price : ℕ → ℤ) where
   abbrev a : ℕ → ℤ
@@ -104,3 +104,11 @@ module _ (core : Rule) (price : ℕ → ℤ) where
       where
         same : (t b u c : ℕ) → u ≡ t → c ≡ b → ◌≡◌ {A = Round} (record { weight = t; count = b }) (record { weight = u; count = c })
         same t b u c p q = ap₂ (λ (x y : ℕ). record { weight = x; count = y }) (sym p) (sym q)
+
+  -- what comes of a core that can be met
+  pub best_of : CanBeMet core → (found : Option Round) → Found core price found → (r : Option CountRule) → (P : Round → CountRule → Type 0)
+      → ((x : Round) (k : CountRule) → P x k → RuleIs k.rule (count_row (heavy a w x.weight) a) x.count × (k.weight ≡ x.weight))
+      → MatchOption found (r ≡ None) (λ x. IsSomeAnd r (P x)) → BestOf core price (Ok r)
+  best_of can None h r P means m = subst (λ (q : Option CountRule). BestOf core price (Ok q)) (sym m) h
+  best_of can (Some x) h None P means m = absurd m
+  best_of can (Some x) h (Some k) P means m = let e = means x k m in kept can x h k e.0 e.1

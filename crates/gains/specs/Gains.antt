@@ -1,17 +1,16 @@
 -- The count rule of greatest gain that follows from a core.
-use Rattle.std.specs.Prelude.{◌≡◌, ℕ, ◌*◌, ◌<◌, ◌≤◌, Bool, true, false, cond, ℤ, Some, None, Option, ◌≢◌, nat_lt}
+use Rattle.std.specs.Prelude.{◌≡◌, ℕ, ◌*◌, ◌<◌, ◌≤◌, Bool, true, false, cond, ℤ, Some, None, Option, Ok, Err, Result, ◌≢◌, nat_lt}
 use Rattle.rules.specs.Rule.{size}
 use Rattle.rules.specs.Terms.{coefficient}
 use Rattle.rules.specs.declared.term.Rule.{Rule}
 use Rattle.derive.specs.Derive.{Follows}
+use Rattle.cores.specs.declared.core_of.CannotBeMet.{CannotBeMet}
 use Rattle.cores.specs.Cores.{sizes, RuleIs, CanBeMet}
 use Rattle.counting.specs.Counting.{count_row}
 use Rattle.counting.specs.Gain.{heavy}
 use Rattle.counting.specs.Rounds.{weight_under, NoneGainsMore, FirstGreatest, BestBelow, NoneLighter}
 use Rattle.gains.specs.declared.kinds.Round.{Round}
 use Rattle.gains.specs.declared.kinds.CountRule.{CountRule}
-use Rattle.gains.specs.declared.kinds.Best.{Best}
-use Rattle.gains.specs.declared.kinds.Best.TheVariants.{CannotBeMet, Nothing, Kept}
 
 -- what a round gains
 abbrev pub gain : Round → ℕ
@@ -68,7 +67,8 @@ pub record KeptIs (core : Rule) (price : ℕ → ℤ) (k : CountRule) : Type 0 w
   pub greatest : Greatest core price (round_of k)
   pub gains : AllWeigh core price → 0 < gain (round_of k)
 
-abbrev pub BestOf : Rule → (ℕ → ℤ) → Best → Type 0
-BestOf core price CannotBeMet = sizes 80 (coefficient core) < core.degree
-BestOf core price Nothing = core.degree ≡ 0
-BestOf core price (Kept k) = KeptIs core price k
+-- what comes of a core: the count rule that is kept, none where the core says nothing, or that it cannot be met
+abbrev pub BestOf : Rule → (ℕ → ℤ) → Result (Option CountRule) CannotBeMet → Type 0
+BestOf core price (Ok (Some k)) = KeptIs core price k
+BestOf core price (Ok None) = core.degree ≡ 0
+BestOf core price (Err _) = sizes 80 (coefficient core) < core.degree

@@ -25,14 +25,3 @@ pub struct CountRule {
     pub rule: Rule,
     pub weight: u32,
 }
-
-// What comes of a core.
-#[derive(Clone, Copy)]
-pub enum Best {
-    // its coefficients together miss its degree
-    CannotBeMet,
-    // its degree is 0: it says nothing
-    Nothing,
-    // the count rule of greatest gain
-    Kept(CountRule),
-}

@@ -1,19 +1,23 @@
-use Rattle.std.proofs.Common.{◌≡◌, arith, w32, SFits, rules}
-use Rattle.std.proofs.lemmas.Int.{to_z-of_z}
-use Rattle.rules.specs.Sum.{total}
+use Rattle.std.proofs.Common.{◌∙◌, pos, arith, rules}
+use Rattle.std.proofs.lemmas.Iterator.{YieldsList-from_slice, YieldsList-from_map}
+use Rattle.std.proofs.lemmas.Iterator.Adapters.{fits_from_length, at_most_from_yields_List}
+use Rattle.std.proofs.lemmas.Iterator.Consumers.{sum_from_yields_List}
 use Rattle.rules.specs.Rule.{at, size}
-use Rattle.rules.proofs.Sum.{total_more}
+use Rattle.rules.proofs.Sum.{total_bound}
+use Rattle.rules.proofs.Summed.{summed}
 use Rattle.cores.proofs.core_of.sum_of.Goals as goal
 
-pub loop-i-init : goal.loop-i-init
-unfolding total
-loop-i-init c = search rules
+pub sum-requires-clause-fits : goal.sum-requires-clause-fits
+sum-requires-clause-fits c =
+    fits_from_length _ _ 80 _ (at_most_from_yields_List (YieldsList-from_slice c.args.coefficients.now (cc)) (omega arith)) c.map.ensures.closure (omega arith)
+    (λ x r q k. (search rules, omega (arith, k.met)))
 
-pub loop-i-preserved : goal.loop-i-preserved
-loop-i-preserved c =
+pub returns-clause-value : goal.returns-clause-value
+returns-clause-value c =
+    sum_from_yields_List c.map.result _ c.sum.ensures.ran (YieldsList-from_map _ size (YieldsList-from_slice c.args.coefficients.now (cc)) c.map.ensures.closure (λ x r q k. search rules))
+    ∙ summed size (λ i. size (at c.args.coefficients.now i)) c.args.coefficients.now (pos 0) 80 (omega arith) (λ i l. search rules)
+
+pub returns-clause-bound : goal.returns-clause-bound
+returns-clause-bound c =
     let a = at c.args.coefficients.now in
-    let i = c.loop-i.i in
-    let fit : SFits w32 (a i) = search rules in
-    let gives : c.unsigned_abs.result ≡ size (a i) = simp to_z-of_z at c.unsigned_abs.ensures.value in
-    let more = total_more (λ i. size (a i)) i in
-    (omega arith, omega arith)
+    omega (arith, returns-clause-value c, total_bound 80 2147483648 (λ i. size (a i)) (λ i l. search rules))

@@ -1,22 +1,18 @@
-use Rattle.std.proofs.Common.{◌≡◌, cond, ap, arith, rules}
-use Rattle.rules.specs.Sum.{total}
-use Rattle.rules.specs.Rule.{at, size}
-use Rattle.rules.proofs.Sum.{total_more}
-use Rattle.counting.specs.Order.{flag}
+use Rattle.std.proofs.Common.{◌∙◌, arith, rules}
+use Rattle.std.proofs.lemmas.Iterator.{YieldsList-from_slice, YieldsList-from_map, YieldsList-from_zip}
+use Rattle.std.proofs.lemmas.Iterator.Adapters.{fits_from_length, at_most_from_yields_List}
+use Rattle.std.proofs.lemmas.Iterator.Consumers.{sum_from_yields_List, YieldsList-from_filter}
+use Rattle.counts.proofs.Outside.{outside, first_size, few_outside, outside_summed}
 use Rattle.counts.proofs.count.sum_outside.Goals as goal
-use Rattle.counts.proofs.count.sum_outside.Goals.{then-not-members-i, else-not-members-i}
 
-pub loop-i-init : goal.loop-i-init
-unfolding total
-loop-i-init c = search rules
+pub sum-requires-clause-fits : goal.sum-requires-clause-fits
+sum-requires-clause-fits c =
+    fits_from_length _ _ 80 _
+    (at_most_from_yields_List (YieldsList-from_filter _ outside (YieldsList-from_zip (YieldsList-from_slice c.args.coefficients.now (cc)) (YieldsList-from_slice c.args.members.now (cc))) c.filter.ensures.closure (λ x r q k. search rules)) (few_outside c.args.coefficients.now c.args.members.now (omega arith) (omega arith)))
+    c.map.ensures.closure (omega arith) (λ x r q k. (search rules, omega (arith, k.met)))
 
-pub loop-i-preserved : goal.loop-i-preserved
-loop-i-preserved c =
-    let a = at c.args.coefficients.now in
-    let y = flag c.args.members.now in
-    let i = c.loop-i.i in
-    let more = total_more (λ j. cond (y j) 0 (size (a j))) i in
-    elim c.if-not-members-i.branch [
-      | then-not-members-i w ↦ let e : cond (y i) 0 (size (a i)) ≡ size (a i) = ap (λ b. cond b 0 (size (a i))) w.if-not-members-i.true in (omega (arith, w.sum-is, w.from-sum.ensures, w.size_at.ensures), omega (arith, w.sum-is, w.from-sum.ensures, w.size_at.type_inv))
-      | else-not-members-i w ↦ let e : cond (y i) 0 (size (a i)) ≡ 0 = ap (λ b. cond b 0 (size (a i))) w.if-not-members-i.false in (omega (arith, w.sum-is), omega (arith, w.sum-is))
-    ]
+pub returns : goal.returns
+returns c =
+    sum_from_yields_List c.map.result _ c.sum.ensures.ran
+    (YieldsList-from_map _ first_size (YieldsList-from_filter _ outside (YieldsList-from_zip (YieldsList-from_slice c.args.coefficients.now (cc)) (YieldsList-from_slice c.args.members.now (cc))) c.filter.ensures.closure (λ x r q k. search rules)) c.map.ensures.closure (λ x r q k. search rules))
+    ∙ outside_summed c.args.coefficients.now c.args.members.now (omega arith) (omega arith)
