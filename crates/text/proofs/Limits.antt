@@ -7,9 +7,8 @@ use Rattle.faults.specs.declared.fault.TextFault.TheVariants.{Beyond}
 use Rattle.text.specs.declared.reader.Limit.{Limit}
 use Rattle.text.specs.declared.reader.Limit.TheVariants.{Parts, Rules, Price, Coefficient, RightSide}
 use Rattle.text.specs.declared.reader.Token.{Token}
-use Rattle.text.specs.declared.reader.Token.TheVariants.{Number, Name, Sign}
 use Rattle.text.specs.Bytes.{decimal, number_of}
-use Rattle.text.specs.Reading.{number_said, written, place, IsNumber}
+use Rattle.text.specs.Reading.{number_said, written, IsNumber}
 use Rattle.text.specs.Tokens.{low, high, clamp, limited}
 
 -- the code compares from the other side
@@ -50,7 +49,5 @@ module _ (l : Limit) (at : ℕ) (z v lo hi : ℤ) (v-fits : SFits w32 v) (cut : 
       let w : lt_z (high l) v ≡ b = cc in
       sym (ap (λ (x : Bool). cond x (Err (Beyond at)) (cond (lt_z (high l) v) (Err (Beyond at)) (Ok v))) u ∙ ap (λ (x : Bool). cond x (Err (Beyond at)) (Ok v)) w) ∙ here
 
-pub said : (l : Limit) (t : Token) → IsNumber t → number_said l t ≡ limited l (place t) (written t)
-said l (Number at bytes) h = refl
-said l (Name at bytes) h = absurd h
-said l (Sign at bytes) h = absurd h
+pub said : (l : Limit) (t : Token) → IsNumber t → number_said l t ≡ limited l t.at (written t)
+said l t h = rw h refl

@@ -24,5 +24,5 @@ pub returns : goal.returns
 returns c = record {
   reads = name_made _ _ _ _ c.in_ok-digits.ensures c.since-bytes.ensures c.in_ok-byte.ensures;
   covers = (refl, shows c.args.self.now _ _ _ c.in_ok-digits.ensures c.since-bytes.ensures c.in_ok-byte.ensures.same);
-  kind = tt;
+  kind = refl;
 }

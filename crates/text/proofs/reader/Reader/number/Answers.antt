@@ -17,5 +17,5 @@ pub returns : goal.returns
 returns c = record {
   reads = number_made _ _ _ _ c.in_ok-digits.ensures c.since-bytes.ensures _ c.minus.ensures;
   covers = (refl, shows c.args.self.now _ _ _ c.in_ok-digits.ensures c.since-bytes.ensures c.minus.ensures.same);
-  kind = tt;
+  kind = refl;
 }
