@@ -55,6 +55,7 @@ fn run_end(text: &[u8], from: usize, class: Class) -> usize
 }
 
 // The number that the digits write or, where that is larger, one that is past every limit.
+#[tactic(auto, unfolding(crate::specs::Bytes::decimal))]
 fn capped(digits: &[u8]) -> u32
     ensures { result ≡ min 100000001 (decimal digits.now) }
 {
@@ -173,12 +174,18 @@ impl<'a> Reader<'a> {
         minus
     }
 
-    // The bytes from `at` up to here, of the text itself.
-    fn since(&self, at: usize) -> &'a [u8]
+    // The token of this kind that began at `at` and ends here.
+    fn token(&self, kind: Kind, at: usize) -> Token<'a>
         requires { at ≤ self.now.at }
-        ensures { result.now ≡ between at self.now.at self.now.text.now }
+        ensures kind { result.kind ≡ kind }
+        ensures at { result.at ≡ at }
+        ensures bytes { result.bytes.now ≡ between at self.now.at self.now.text.now }
     {
-        &self.text[at..self.at]
+        Token {
+            kind,
+            at,
+            bytes: &self.text[at..self.at],
+        }
     }
 
     // A number: an optional sign and digits.
@@ -190,12 +197,7 @@ impl<'a> Reader<'a> {
         let at = self.at;
         self.minus();
         self.digits(at)?;
-        let bytes = self.since(at);
-        Ok(Token {
-            kind: Kind::Number,
-            at,
-            bytes,
-        })
+        Ok(self.token(Kind::Number, at))
     }
 
     // The name of a part: `x` and digits.
@@ -207,12 +209,7 @@ impl<'a> Reader<'a> {
         let at = self.at;
         self.byte(b'x', at)?;
         self.digits(at)?;
-        let bytes = self.since(at);
-        Ok(Token {
-            kind: Kind::Name,
-            at,
-            bytes,
-        })
+        Ok(self.token(Kind::Name, at))
     }
 
     // A token that is spelt in one way only.
@@ -223,12 +220,7 @@ impl<'a> Reader<'a> {
     {
         let at = self.at;
         self.spell(sign.spelling(), at)?;
-        let bytes = self.since(at);
-        Ok(Token {
-            kind: Kind::Sign,
-            at,
-            bytes,
-        })
+        Ok(self.token(Kind::Sign, at))
     }
 
     // Passes these bytes, of a token that begins at `start`.
