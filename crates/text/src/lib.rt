@@ -60,6 +60,7 @@ fn capped(digits: &[u8]) -> u32
     ensures { result ≡ min 100000001 (decimal digits.now) }
 {
     let mut sum: u32 = 0;
+    // a fold would be no shorter, and its closure could not be proved to stay in range
     for b in digits {
         sum = (sum * 10 + u32::from(b.saturating_sub(48))).min(PAST_EVERY_LIMIT);
     }
@@ -133,6 +134,7 @@ impl<'a> Reader<'a> {
     }
 
     // Passes as many bytes of the class as there are.
+    #[tactic(auto, using(crate::specs::Tokens::passed))]
     pub fn pass(&mut self, class: Class)
         ensures { Step (Pass class) self.old self.new (Ok tt) }
     {
@@ -151,6 +153,7 @@ impl<'a> Reader<'a> {
     }
 
     // Passes one or more digits.
+    #[tactic(auto, using(crate::specs::Tokens::some, crate::specs::Tokens::none, crate::proofs::Runs::empty))]
     fn digits(&mut self, start: usize) -> Result<(), TextFault>
         ensures { Step (λ t. Digits t start) self.old self.new (told (decimal (between self.old.at self.new.at self.old.text.now)) result) }
     {
