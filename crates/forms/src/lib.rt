@@ -1,5 +1,3 @@
 // The forms of a grammar and their laws stand in specs/ and proofs/. Code that reads a text says in its contract which
 // form it has read; there is no code here.
 #![tactic(auto)]
-
-pub const FORMS: u8 = 0;

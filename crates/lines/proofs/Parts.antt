@@ -1,7 +1,7 @@
 -- The tests of the code are those of the forms.
-use Rattle.std.proofs.Common.{◌≡◌, ℕ, ◌<◌, ◌≤◌, min, Bool, true, false, cond, ltb, leb, ◌⊎◌, List, ℤ, nat_abs, Ok, Err, Result, refl, ap, ◌∙◌, subst, inl, inr, arith}
+use Rattle.std.proofs.Common.{◌≡◌, ℕ, ◌<◌, ◌≤◌, min, Bool, true, false, cond, ltb, leb, List, ℤ, nat_abs, Ok, Err, Result, refl, ap, ◌∙◌, subst, arith, w32, SFits, to_z, of_z}
 use lib.Signed.{le_z}
-use Rattle.std.proofs.lemmas.Int.{ints}
+use Rattle.std.proofs.lemmas.Int.{ints, to_z-of_z}
 use Rattle.faults.specs.declared.fault.SheetFault.{SheetFault}
 use Rattle.faults.specs.declared.fault.SheetFault.TheVariants.{Unknown, NoRoom}
 use Rattle.faults.specs.declared.fault.TextFault.{TextFault}
@@ -22,16 +22,18 @@ use Rattle.lines.specs.declared.line.Sum.{Sum}
 use Rattle.text.proofs.Steps.{step_goes, step_stops}
 
 -- m is k, or past every part
-pub unknown : (n start k m : ℕ) → m ≡ min 100000001 k → n ≤ 40 → (m ≡ 0) ⊎ ((m ≡ 0 → ⊥) × (n < m)) → Err (Unknown start) ≡ known n start k
-unknown n start k m e s (inl h) = let z : k ≡ 0 = omega arith in rw z refl
-unknown n start k m e s (inr h) = by (ltb 0 k) (leb k n) refl refl
+pub unknown : (n start k m : ℕ) → m ≡ min 100000001 k → n ≤ 40 → (1 ≤ m → m ≤ n → ⊥) → Err (Unknown start) ≡ known n start k
+unknown n start k m e s h = by (ltb 0 k) (leb k n) refl refl
   where
     by : (c d : Bool) → ltb 0 k ≡ c → leb k n ≡ d → ◌≡◌ {A = Result ℕ SheetFault} (Err (Unknown start)) (cond c (cond d (Ok k) (Err (Unknown start))) (Err (Unknown start)))
-    by true true p q = let l = h.1 in let z : n < k = omega arith in absurd (grind arith)
+    by true true p q =
+        let low : 0 < k = grind arith in
+        let high : k ≤ n = grind arith in
+        absurd (h (omega arith) (omega arith))
     by true false p q = refl
     by false d p q = refl
 
-pub known_part : (n start k m : ℕ) → m ≡ min 100000001 k → n ≤ 40 → (m ≡ 0 → ⊥) → m ≤ n → Ok m ≡ known n start k
+pub known_part : (n start k m : ℕ) → m ≡ min 100000001 k → n ≤ 40 → 1 ≤ m → m ≤ n → Ok m ≡ known n start k
 known_part n start k m e s h l =
     let same : m ≡ k = omega arith in
     let low : 0 < k = omega arith in
@@ -64,6 +66,9 @@ number_within text l from to z h = by h.begun
 
 pub announced_within : (text : List ℕ) (s : Sign) (l : Limit) (from to : ℕ) (z : ℤ) → Announced text s l from (got z to) → (le_z (low l) z ≡ true) × (le_z z (high l) ≡ true)
 announced_within text s l from to z (goes _ mid _ a (goes _ next _ b n)) = number_within text l next to z n
+
+pub size_read : (z : ℤ) (n : ℕ) → SFits w32 z → n ≡ nat_abs (to_z w32 (of_z w32 z)) → n ≡ nat_abs z
+size_read z n f e = e ∙ ap nat_abs (to_z-of_z w32 z f)
 
 pub parts_size : (z : ℤ) → (le_z (low Parts) z ≡ true) × (le_z z (high Parts) ≡ true) → (0 < nat_abs z) × (nat_abs z ≤ 40)
 parts_size z h = let a = h.0 in let b = h.1 in (grind (arith, ints), grind (arith, ints))

@@ -73,8 +73,16 @@ Terms text n l a = Then (Named text n a empty) (Loop (goes_on text l) (Term text
 abbrev pub Announced : List ℕ → Sign → Limit → Form ℤ TextFault
 Announced text s l = Then (Spelt text s) (λ _. Then (Pass Blank text) (λ _. Limited text l))
 
+-- what a header announces: how many parts there are, and how many rules
+pub record Numbers : Type 0 where
+  pub parts : ℕ
+  pub rules : ℕ
+
+abbrev pub numbers : Header → Numbers
+numbers h = record { parts = h.parts.number; rules = h.rules }
+
 -- the header: the numbers of parts and of rules, and the rest of the line
-abbrev pub HeaderLine : List ℕ → Form Header TextFault
+abbrev pub HeaderLine : List ℕ → Form Numbers TextFault
 HeaderLine text =
     Then (Announced text Variables Parts) (λ n. Then (Pass Blank text) (λ _. Then (Announced text Constraints Rules) (λ m.
     Then (RestOfLine text) (λ _. Give (Ok (record { parts = unsigned_abs n; rules = unsigned_abs m }))))))

@@ -2,20 +2,22 @@
 #![tactic(auto)]
 
 ghost use Rattle.std.specs.Prelude.{◌≡◌, ℕ, ◌+◌, ◌-◌, ◌<◌, ◌≤◌, length, IfOk};
-ghost use Rattle.text.specs.Reading.{Step, told};
-ghost use Rattle.lines.specs.Lines.{empty, placed, Part, Named, Term, goes_on, limit_of, Terms, Announced, HeaderLine, PriceLine, Compared, rows_for, Fitting, Bound, RuleAfter};
+ghost use Rattle.text.specs.Reading.{Step, told, seen};
+ghost use Rattle.lines.specs.Lines.{empty, numbers, placed, Part, Named, Term, goes_on, limit_of, Terms, Announced, HeaderLine, PriceLine, Compared, rows_for, Fitting, Bound, RuleAfter};
 
 pub mod line;
 
 use faults::fault::{SheetFault, TextFault};
-use line::{Comparison, Header, Line, Rule, Sum};
+use line::{Comparison, Header, Line, MOST_PARTS, Parts, Rule, Sum};
 use text::reader::{Class, Limit, Reader, Sign};
 
 impl Sum {
     pub fn new() -> Sum
         ensures { result ≡ empty }
     {
-        Sum { terms: [None; 40] }
+        Sum {
+            terms: [None; MOST_PARTS],
+        }
     }
 
     // Gives the part, which is named at `at`, its coefficient, unless the sum names it already.
@@ -54,29 +56,31 @@ impl Line {
     }
 }
 
+// What follows reads from a reader that the parts are passed beside: one that knew them would have to promise in each
+// contract that it keeps them.
+
 // The name of one of the parts.
-fn part(reader: &mut Reader, parts: usize) -> Result<usize, SheetFault>
-    requires { parts ≤ 40 }
-    ensures reads { Step (λ t. Part t parts) reader.old reader.new result }
+fn part(reader: &mut Reader, parts: Parts) -> Result<usize, SheetFault>
+    ensures reads { Step (λ t. Part t parts.number) reader.old reader.new result }
     ensures known { IfOk result (λ k. (0 < k) × (k ≤ 40)) }
 {
     let at = reader.at;
     let part = reader.name()?.index();
-    if part == 0 || part > parts {
-        return Err(SheetFault::Unknown(at));
+    if (1..=parts.number).contains(&part) {
+        Ok(part)
+    } else {
+        Err(SheetFault::Unknown(at))
     }
-    Ok(part)
 }
 
 // What follows a term's coefficient: the name of a part that the sum does not name yet, with the blanks around it.
 fn named(
     reader: &mut Reader,
-    parts: usize,
+    parts: Parts,
     coefficient: i32,
     sum: &mut Sum,
 ) -> Result<(), SheetFault>
-    requires { parts ≤ 40 }
-    ensures { Step (λ t. Named t parts coefficient sum.old) reader.old reader.new (told sum.new result) }
+    ensures { Step (λ t. Named t parts.number coefficient sum.old) reader.old reader.new (told sum.new result) }
 {
     reader.pass(Class::Blank); // before the name
     let at = reader.at;
@@ -87,9 +91,8 @@ fn named(
 }
 
 // One more term.
-fn term(reader: &mut Reader, parts: usize, line: Line, sum: &mut Sum) -> Result<(), SheetFault>
-    requires { parts ≤ 40 }
-    ensures { Step (λ t. Term t parts line sum.old) reader.old reader.new (told sum.new result) }
+fn term(reader: &mut Reader, parts: Parts, line: Line, sum: &mut Sum) -> Result<(), SheetFault>
+    ensures { Step (λ t. Term t parts.number line sum.old) reader.old reader.new (told sum.new result) }
 {
     let limit = line.limit();
     let coefficient = reader.value(limit)?;
@@ -97,9 +100,8 @@ fn term(reader: &mut Reader, parts: usize, line: Line, sum: &mut Sum) -> Result<
 }
 
 // A sum whose first coefficient is read already.
-pub fn terms(reader: &mut Reader, parts: usize, line: Line, first: i32) -> Result<Sum, SheetFault>
-    requires { parts ≤ 40 }
-    ensures { Step (λ t. Terms t parts line first) reader.old reader.new result }
+pub fn terms(reader: &mut Reader, parts: Parts, line: Line, first: i32) -> Result<Sum, SheetFault>
+    ensures { Step (λ t. Terms t parts.number line first) reader.old reader.new result }
 {
     let mut sum = Sum::new();
     named(reader, parts, first, &mut sum)?;
@@ -120,23 +122,23 @@ fn announced(reader: &mut Reader, sign: Sign, limit: Limit) -> Result<i32, TextF
 
 // The header: the numbers of parts and of rules, and the rest of the line.
 pub fn header(reader: &mut Reader) -> Result<Header, TextFault>
-    ensures reads { Step HeaderLine reader.old reader.new result }
-    ensures small { IfOk result (λ h. (0 < h.parts) × (h.parts ≤ 40) × (h.rules ≤ 64)) }
+    ensures { Step HeaderLine reader.old reader.new (seen numbers result) }
 {
     let parts = announced(reader, Sign::Variables, Limit::Parts)?;
     reader.pass(Class::Blank);
     let rules = announced(reader, Sign::Constraints, Limit::Rules)?;
     reader.line()?;
     Ok(Header {
-        parts: parts.unsigned_abs() as usize,
+        parts: Parts {
+            number: parts.unsigned_abs() as usize,
+        },
         rules: rules.unsigned_abs() as usize,
     })
 }
 
 // The price line.
-pub fn price_line(reader: &mut Reader, parts: usize) -> Result<Sum, SheetFault>
-    requires { parts ≤ 40 }
-    ensures { Step (λ t. PriceLine t parts) reader.old reader.new result }
+pub fn price_line(reader: &mut Reader, parts: Parts) -> Result<Sum, SheetFault>
+    ensures { Step (λ t. PriceLine t parts.number) reader.old reader.new result }
 {
     let first = announced(reader, Sign::Minimise, Limit::Price)?;
     let sum = terms(reader, parts, Line::Price, first)?;
@@ -196,12 +198,11 @@ fn bound(reader: &mut Reader) -> Result<i32, TextFault>
 // A rule whose first coefficient is read already, and for which `room` rows are left.
 pub fn rule_after(
     reader: &mut Reader,
-    parts: usize,
+    parts: Parts,
     room: usize,
     first: i32,
 ) -> Result<Rule, SheetFault>
-    requires { parts ≤ 40 }
-    ensures reads { Step (λ t. RuleAfter t parts room first) reader.old reader.new result }
+    ensures reads { Step (λ t. RuleAfter t parts.number room first) reader.old reader.new result }
     ensures room { IfOk result (λ q. rows_for q.comparison ≤ room) }
 {
     let sum = terms(reader, parts, Line::Rule, first)?;

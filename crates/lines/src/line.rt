@@ -1,9 +1,20 @@
 // What the lines of a sheet say.
+ghost use Rattle.std.specs.Prelude.{◌<◌, ◌≤◌};
+
+// The most parts that a header may declare.
+pub const MOST_PARTS: usize = 40;
+
+// How many parts are declared.
+#[derive(Clone, Copy)]
+pub struct Parts {
+    pub number: usize,
+    ghost few: { number ≤ 40 },
+}
 
 // The coefficient that a sum gives to each part that it names; x1 stands first.
 #[derive(Clone, Copy)]
 pub struct Sum {
-    pub terms: [Option<i32>; 40],
+    pub terms: [Option<i32>; MOST_PARTS],
 }
 
 // The line that a sum stands in. It decides the limits of the sum's numbers and what may close it.
@@ -28,9 +39,11 @@ pub struct Rule {
     pub bound: i32,
 }
 
-// What the header announces.
+// What the header announces: a part or more, and 64 rules at most.
 #[derive(Clone, Copy)]
 pub struct Header {
-    pub parts: usize,
+    pub parts: Parts,
     pub rules: usize,
+    ghost some: { 0 < parts.number },
+    ghost few: { rules ≤ 64 },
 }

@@ -1,4 +1,5 @@
 -- Every word of a sheet's table is within its limits.
+use Rattle.lines.specs.Lines.{Numbers}
 use Rattle.std.proofs.Common.{◌≡◌, ℕ, zero, suc, ◌+◌, ◌-◌, ◌*◌, ◌/◌, ◌%◌, ◌<◌, ◌≤◌, Bool, true, false, not, ◌&&◌, eqb, ltb, List, [], ◌∷◌, ◌++◌, length, get_or, replicate, ℤ, pos, negsuc, neg_ℤ, nat_abs, ◌≤ℤ◌, Some, None, Option, sym, refl, ap, ◌∙◌, subst, arith, length-append}
 use lib.ListN.{length-replicate}
 use Rattle.std.proofs.lemmas.List.{get_or-append_right, get_or-replicate}
@@ -7,7 +8,6 @@ use Rattle.table.specs.declared.place.Place.{Place}
 use Rattle.table.specs.declared.place.Place.TheVariants.{Parts, Rules, Base, Priced, Weight, Degree, Coefficient}
 use Rattle.table.specs.Layout.{word, parts_of, rules_of, declared, stated, priced, place_of, range, used, limits_of, Within, Fine, Sound}
 use Rattle.table.proofs.Places.{place_parts, place_rules, place_base, place_priced, place_weight, place_degree, place_coefficient}
-use Rattle.lines.specs.declared.line.Header.{Header}
 use Rattle.lines.specs.declared.line.Sum.{Sum}
 use Rattle.rows.specs.Rows.{Row, laid, table_with, Lined, NarrowPrice, words, negatives, all_rows, front_of}
 use Rattle.rows.proofs.Laid.{laid_length}
@@ -110,7 +110,7 @@ module _ (text : List ℕ) (s : Written) (h : Language text s) where
   some_parts : (1 ≤ s.header.parts) × (s.header.parts ≤ 40)
   some_parts =
       let w = parts_fit text h.header_line.p2 h.header_line.p3 h.header_line.n h.header_line.parts in
-      let e : nat_abs h.header_line.n ≡ s.header.parts = sym (ap (λ (x : Header). x.parts) h.header_line.is) in
+      let e : nat_abs h.header_line.n ≡ s.header.parts = sym (ap (λ (x : Numbers). x.parts) h.header_line.is) in
       (subst (λ (x : ℕ). 1 ≤ x) e w.0, subst (λ (x : ℕ). x ≤ 40) e w.1)
 
   at_place : (w : ℕ) (p : Place) (v : ℤ) → place_of w ≡ p → word (table_of s) w ≡ v → Within (limits_of (table_of s) p) v → Fine (table_of s) w

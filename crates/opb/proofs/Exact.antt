@@ -1,20 +1,20 @@
 -- A text comes to one outcome only.
+use Rattle.lines.specs.Lines.{Numbers}
 use Rattle.std.proofs.Common.{◌≡◌, ℕ, List, []}
 use Rattle.faults.specs.declared.fault.SheetFault.{SheetFault}
 use Rattle.forms.specs.Forms.{Exact}
 use Rattle.forms.proofs.Exactness.{apart, exact_then, exact_loop, exact_branch, exact_from, exact_just, exact_give, exact_lifted}
 use Rattle.text.specs.declared.reader.Limit.TheVariants.{Coefficient}
 use Rattle.text.proofs.Exact.{exact_pass, exact_limited, exact_gap}
-use Rattle.lines.specs.declared.line.Header.{Header}
 use Rattle.lines.proofs.Exact.{exact_header, exact_price, exact_rule}
 use Rattle.opb.specs.Sheets.{Written, Price, RuleLine, NextRule, Rules, Whole, unended, Says, Refused, Alone}
 
-exact_rule_line : (text : List ℕ) (h : Header) (count rows : ℕ) → Exact (RuleLine text h count rows)
+exact_rule_line : (text : List ℕ) (h : Numbers) (count rows : ℕ) → Exact (RuleLine text h count rows)
 exact_rule_line text h count rows =
     exact_from _ (λ start. exact_then _ _ (exact_lifted _ _ (exact_limited text Coefficient)) (λ a. exact_then _ _ (exact_give _) (λ _.
     exact_then _ _ (exact_rule text _ _ a) (λ q. exact_then _ _ (exact_lifted _ _ (exact_gap text)) (λ _. exact_give _)))))
 
-exact_rules : (text : List ℕ) (h : Header) → Exact (Rules text h)
+exact_rules : (text : List ℕ) (h : Numbers) → Exact (Rules text h)
 exact_rules text h =
     exact_then _ _ (exact_loop (unended text) (NextRule text h) (λ qs. exact_then _ _ (exact_rule_line text h _ _) (λ q. exact_give _)) []) (λ qs. exact_give _)
 

@@ -10,11 +10,10 @@ use Rattle.text.specs.Bytes.{stands}
 use Rattle.text.specs.Tokens.{passed}
 use Rattle.lines.specs.declared.line.Comparison.{Comparison}
 use Rattle.lines.specs.declared.line.Comparison.TheVariants.{AtLeast, Equal}
-use Rattle.lines.specs.declared.line.Header.{Header}
 use Rattle.lines.specs.declared.line.Line.TheVariants as line
 use Rattle.lines.specs.declared.line.Rule.{Rule}
 use Rattle.lines.specs.declared.line.Sum.{Sum}
-use Rattle.lines.specs.Lines.{goes_on, HeaderLine, Compared, rows_for, fitting, Fitting, RuleAfter}
+use Rattle.lines.specs.Lines.{Numbers, goes_on, HeaderLine, Compared, rows_for, fitting, Fitting, RuleAfter}
 use Rattle.opb.specs.Language.{SpeltAt, NumberAt, GapAt, SumAt, HeaderAt, PriceAt, absent, present, ComparedAt, at_least, equal, RuleAt}
 use Rattle.opb.specs.Sheets.{Price}
 use Rattle.opb.proofs.Narrow.{same_give}
@@ -22,7 +21,7 @@ use Rattle.opb.proofs.Sums.{give_place, sum_sound, sum_complete}
 use Rattle.opb.proofs.Tokens.{spelt_sound, spelt_complete, spelt_first, number_sound, number_complete, byte_sound, byte_complete, gap_sound, gap_complete}
 
 -- the header
-pub header_sound : (text : List ℕ) (to : ℕ) (h : Header) → HeaderLine text 0 (got h to) → HeaderAt text to h
+pub header_sound : (text : List ℕ) (to : ℕ) (h : Numbers) → HeaderLine text 0 (got h to) → HeaderAt text to h
 header_sound text to h (goes n m3 _ (goes _ m1 _ a (goes _ m2 _ (passed _ b) c)) (goes _ m4 _ (passed _ d) (goes m m7 _ (goes _ m5 _ e (goes _ m6 _ (passed _ f) g)) (goes _ m9 _ (goes _ m8 _ (passed _ i) j) k)))) =
     let w = byte_sound text 10 m8 m8 m9 j.begun in
     let t = give_place (record { parts = nat_abs n; rules = nat_abs m }) h m9 to k in
@@ -50,7 +49,7 @@ header_sound text to h (goes n m3 _ (goes _ m1 _ a (goes _ m2 _ (passed _ b) c))
       is = sym (same_give (record { parts = nat_abs n; rules = nat_abs m }) h m9 to k);
     }
 
-pub header_complete : (text : List ℕ) (to : ℕ) (h : Header) → HeaderAt text to h → HeaderLine text 0 (got h to)
+pub header_complete : (text : List ℕ) (to : ℕ) (h : Numbers) → HeaderAt text to h → HeaderLine text 0 (got h to)
 header_complete text to h w =
     let last : got h to ≡ got (record { parts = nat_abs w.n; rules = nat_abs w.m }) (w.p8 + 1) = cc (w.is, w.end) in
     goes w.n w.p3 _

@@ -10,12 +10,11 @@ use Rattle.text.specs.declared.reader.Limit.{Limit}
 use Rattle.text.specs.declared.reader.Limit.TheVariants as limit
 use Rattle.text.specs.declared.reader.Sign.TheVariants.{Minimise}
 use Rattle.text.specs.Tokens.{Limited, Gap, low, high}
-use Rattle.lines.specs.declared.line.Header.{Header}
 use Rattle.lines.specs.declared.line.Line.{Line}
 use Rattle.lines.specs.declared.line.Line.TheVariants as line
 use Rattle.lines.specs.declared.line.Rule.{Rule}
 use Rattle.lines.specs.declared.line.Sum.{Sum}
-use Rattle.lines.specs.Lines.{empty, put, names, placed, Part, Named, Term, Terms, Bound, RuleAfter, PriceLine, limit_of, goes_on}
+use Rattle.lines.specs.Lines.{Numbers, empty, put, names, placed, Part, Named, Term, Terms, Bound, RuleAfter, PriceLine, limit_of, goes_on}
 use Rattle.lines.proofs.Parts.{number_within, announced_within}
 use Rattle.rows.specs.Rows.{Narrow, NarrowPrice, words, given}
 use Rattle.opb.specs.Sheets.{Written, Price, RuleLine, NextRule, Rules, unended, complete, expected, Says}
@@ -106,7 +105,7 @@ rule_small text n room from to a q h (goes s m1 _ t (goes c m2 _ f (goes b m3 _ 
       subst (λ (x : Rule). nat_abs x.bound ≤ 100000000) same (bound_small text m2 m3 b e),
     )
 
-pub rule_narrow : (text : List ℕ) (h : Header) (count rows from to : ℕ) (q : Rule) → RuleLine text h count rows from (got q to) → Narrow (words q.sum) × (nat_abs q.bound ≤ 100000000)
+pub rule_narrow : (text : List ℕ) (h : Numbers) (count rows from to : ℕ) (q : Rule) → RuleLine text h count rows from (got q to) → Narrow (words q.sum) × (nat_abs q.bound ≤ 100000000)
 rule_narrow text h count rows from to q r = by r.begun
   where
     by : Then (Lifted Text (Limited text limit.Coefficient)) (λ a. Then (Give (expected h.rules count from)) (λ _. Then (RuleAfter text h.parts (64 - rows) a) (λ q. Then (Lifted Text (Gap text)) (λ _. Give (Ok q))))) from (got q to) → Narrow (words q.sum) × (nat_abs q.bound ≤ 100000000)
@@ -127,19 +126,19 @@ all_more : (qs : List Rule) (q : Rule) → AllNarrow qs → Narrow (words q.sum)
 all_more [] q a h = (h, tt)
 all_more (p ∷ ps) q a h = (a.0, all_more ps q a.1 h)
 
-rules_loop : (text : List ℕ) (h : Header) (from to : ℕ) (ps qs : List Rule) → AllNarrow ps → Loop (unended text) (NextRule text h) ps from (got qs to) → AllNarrow qs
+rules_loop : (text : List ℕ) (h : Numbers) (from to : ℕ) (ps qs : List Rule) → AllNarrow ps → Loop (unended text) (NextRule text h) ps from (got qs to) → AllNarrow qs
 rules_loop text h from to ps qs a (done _ _ e) = a
 rules_loop text h from to ps qs a (turn _ ms _ mid _ e (goes q m2 _ r g) rest) =
     rules_loop text h mid to ms qs (subst AllNarrow (same_give (ps ++ q ∷ []) ms m2 mid g) (all_more ps q a (rule_narrow text h _ _ from m2 q r).0)) rest
 
-complete_is : (text : List ℕ) (h : Header) (ps qs : List Rule) (mid to : ℕ) → ◌≡◌ {A = Outcome (List Rule) SheetFault} (got qs to) (outcome (complete text h ps) mid) → ps ≡ qs
+complete_is : (text : List ℕ) (h : Numbers) (ps qs : List Rule) (mid to : ℕ) → ◌≡◌ {A = Outcome (List Rule) SheetFault} (got qs to) (outcome (complete text h ps) mid) → ps ≡ qs
 complete_is text h ps qs mid to e = by (ltb (length ps) h.rules) e
   where
     by : (b : Bool) → ◌≡◌ {A = Outcome (List Rule) SheetFault} (got qs to) (outcome (cond b (Err (Count (length text))) (Ok ps)) mid) → ps ≡ qs
     by true p = apart qs to (Count (length text)) p
     by false p = cc
 
-rules_narrow : (text : List ℕ) (h : Header) (from to : ℕ) (qs : List Rule) → Rules text h from (got qs to) → AllNarrow qs
+rules_narrow : (text : List ℕ) (h : Numbers) (from to : ℕ) (qs : List Rule) → Rules text h from (got qs to) → AllNarrow qs
 rules_narrow text h from to qs (goes ps mid _ l g) = subst AllNarrow (complete_is text h ps qs mid to g.is) (rules_loop text h from mid [] ps tt l)
 
 -- what a text says is narrow

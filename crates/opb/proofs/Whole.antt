@@ -10,9 +10,8 @@ use Rattle.text.specs.declared.reader.Limit.TheVariants as limit
 use Rattle.text.specs.Tokens.{short, passed, Limited, Gap}
 use Rattle.lines.specs.declared.line.Comparison.{Comparison}
 use Rattle.lines.specs.declared.line.Comparison.TheVariants.{AtLeast, Equal}
-use Rattle.lines.specs.declared.line.Header.{Header}
 use Rattle.lines.specs.declared.line.Rule.{Rule}
-use Rattle.lines.specs.Lines.{rows_for, RuleAfter, HeaderLine}
+use Rattle.lines.specs.Lines.{Numbers, rows_for, RuleAfter, HeaderLine}
 use Rattle.rows.specs.Rows.{Row, all_rows, rule_rows, rows_by, words}
 use Rattle.text.specs.declared.reader.Class.TheVariants.{Blank}
 use Rattle.text.specs.Bytes.{Run}
@@ -54,7 +53,7 @@ expected_is announced count start mid to h = by (ltb count announced) refl h
 is_expected : (announced count start : ℕ) → count < announced → Ok tt ≡ expected announced count start
 is_expected announced count start h = grind arith
 
-line_sound : (text : List ℕ) (h : Header) (count rows from to : ℕ) (q : Rule) → RuleLine text h count rows from (got q to) → (end : ℕ) × RuleAt text h.parts from end q × GapAt text end to × (rows_for q.comparison ≤ 64 - rows) × (count < h.rules)
+line_sound : (text : List ℕ) (h : Numbers) (count rows from to : ℕ) (q : Rule) → RuleLine text h count rows from (got q to) → (end : ℕ) × RuleAt text h.parts from end q × GapAt text end to × (rows_for q.comparison ≤ 64 - rows) × (count < h.rules)
 line_sound text h count rows from to q r = by r.begun
   where
     by : Then (Lifted Text (Limited text limit.Coefficient)) (λ a. Then (Give (expected h.rules count from)) (λ _. Then (RuleAfter text h.parts (64 - rows) a) (λ p. Then (Lifted Text (Gap text)) (λ _. Give (Ok p))))) from (got q to) → (end : ℕ) × RuleAt text h.parts from end q × GapAt text end to × (rows_for q.comparison ≤ 64 - rows) × (count < h.rules)
@@ -66,7 +65,7 @@ line_sound text h count rows from to q r = by r.begun
         let s = same_give p q m4 to g in
         (m3, subst (λ (z : Rule). RuleAt text h.parts from m3 z) s y.0, gap_sound text m3 to w', subst (λ (z : Rule). rows_for z.comparison ≤ 64 - rows) s y.1, x.0)
 
-line_complete : (text : List ℕ) (h : Header) (count rows from end to : ℕ) (q : Rule) → RuleAt text h.parts from end q → GapAt text end to → rows_for q.comparison ≤ 64 - rows → count < h.rules → RuleLine text h count rows from (got q to)
+line_complete : (text : List ℕ) (h : Numbers) (count rows from end to : ℕ) (q : Rule) → RuleAt text h.parts from end q → GapAt text end to → rows_for q.comparison ≤ 64 - rows → count < h.rules → RuleLine text h count rows from (got q to)
 line_complete text h count rows from end to q r g m c = record {
   begun = goes r.sum.coef r.sum.first.mid _ (well r.sum.coef r.sum.first.mid (number_complete text limit.Coefficient from r.sum.first.mid r.sum.coef r.sum.first.coefficient))
       (goes tt r.sum.first.mid _ (record { is = ap (λ (z : Result (Unit {0}) SheetFault). outcome z r.sum.first.mid) (is_expected h.rules count from c) })
@@ -77,7 +76,7 @@ rule_inside : (text : List ℕ) (n from to : ℕ) (q : Rule) → RuleAt text n f
 rule_inside text n from to q r = number_inside text limit.Coefficient from r.sum.first.mid r.sum.coef r.sum.first.coefficient
 
 -- all rules, after the rules ps
-loop_sound : (text : List ℕ) (h : Header) (from to : ℕ) (ps qs : List Rule) → rows_of ps ≤ 64 → length ps ≤ h.rules → Loop (unended text) (NextRule text h) ps from (got qs to) → (rs : List Rule) × RulesAt text h.parts from rs × (qs ≡ ps ++ rs) × (rows_of qs ≤ 64) × (length qs ≤ h.rules)
+loop_sound : (text : List ℕ) (h : Numbers) (from to : ℕ) (ps qs : List Rule) → rows_of ps ≤ 64 → length ps ≤ h.rules → Loop (unended text) (NextRule text h) ps from (got qs to) → (rs : List Rule) × RulesAt text h.parts from rs × (qs ≡ ps ++ rs) × (rows_of qs ≤ 64) × (length qs ≤ h.rules)
 loop_sound text h from to ps qs r l (done _ _ e) = ([], ended from (grind arith), sym (append-nil ps), r, l)
 loop_sound text h from to ps qs r l (turn _ ms _ mid _ e (goes q m2 _ k g) rest) =
     let w = line_sound text h (length ps) (rows_of ps) from m2 q k in
@@ -92,7 +91,7 @@ loop_sound text h from to ps qs r l (turn _ ms _ mid _ e (goes q m2 _ k g) rest)
     let v = loop_sound text h mid to ms qs (subst (λ (x : List Rule). rows_of x ≤ 64) s f) (subst (λ (x : List Rule). length x ≤ h.rules) s i) rest in
     (q ∷ v.0, rule from w.0 mid q v.0 w.1 (subst (λ (j : ℕ). GapAt text w.0 j) t w.2) v.1, v.2 ∙ ap (λ (x : List Rule). x ++ v.0) (sym s) ∙ one_more ps q v.0, v.3, v.4)
 
-loop_complete : (text : List ℕ) (h : Header) (from : ℕ) (ps rs : List Rule) → RulesAt text h.parts from rs → rows_of (ps ++ rs) ≤ 64 → length (ps ++ rs) ≤ h.rules → (to : ℕ) × Loop (unended text) (NextRule text h) ps from (got (ps ++ rs) to)
+loop_complete : (text : List ℕ) (h : Numbers) (from : ℕ) (ps rs : List Rule) → RulesAt text h.parts from rs → rows_of (ps ++ rs) ≤ 64 → length (ps ++ rs) ≤ h.rules → (to : ℕ) × Loop (unended text) (NextRule text h) ps from (got (ps ++ rs) to)
 loop_complete text h from ps rs (ended _ e) r l = (from, subst (λ (x : List Rule). Loop (unended text) (NextRule text h) ps from (got x from)) (sym (append-nil ps)) (done ps from (grind arith)))
 loop_complete text h from ps rs (rule _ end mid q qs k g rest) r l =
     let a = rows_of_append ps q qs in
@@ -107,17 +106,17 @@ loop_complete text h from ps rs (rule _ end mid q qs k g rest) r l =
           (subst (λ (x : List Rule). Loop (unended text) (NextRule text h) (ps ++ q ∷ []) mid (got x v.0)) s v.1),
     )
 
-complete_is : (text : List ℕ) (h : Header) (ps qs : List Rule) (mid to : ℕ) → ◌≡◌ {A = Outcome (List Rule) SheetFault} (got qs to) (outcome (complete text h ps) mid) → (h.rules ≤ length ps) × (ps ≡ qs)
+complete_is : (text : List ℕ) (h : Numbers) (ps qs : List Rule) (mid to : ℕ) → ◌≡◌ {A = Outcome (List Rule) SheetFault} (got qs to) (outcome (complete text h ps) mid) → (h.rules ≤ length ps) × (ps ≡ qs)
 complete_is text h ps qs mid to e = by (ltb (length ps) h.rules) refl e
   where
     by : (b : Bool) → ltb (length ps) h.rules ≡ b → ◌≡◌ {A = Outcome (List Rule) SheetFault} (got qs to) (outcome (cond b (Err (Count (length text))) (Ok ps)) mid) → (h.rules ≤ length ps) × (ps ≡ qs)
     by true p q = apart qs to (Count (length text)) q
     by false p q = (grind arith, cc)
 
-is_complete : (text : List ℕ) (h : Header) (qs : List Rule) → length qs ≡ h.rules → Ok qs ≡ complete text h qs
+is_complete : (text : List ℕ) (h : Numbers) (qs : List Rule) → length qs ≡ h.rules → Ok qs ≡ complete text h qs
 is_complete text h qs e = grind arith
 
-rules_sound : (text : List ℕ) (h : Header) (from to : ℕ) (qs : List Rule) → Rules text h from (got qs to) → RulesAt text h.parts from qs × (rows_of qs ≤ 64) × (length qs ≡ h.rules)
+rules_sound : (text : List ℕ) (h : Numbers) (from to : ℕ) (qs : List Rule) → Rules text h from (got qs to) → RulesAt text h.parts from qs × (rows_of qs ≤ 64) × (length qs ≡ h.rules)
 rules_sound text h from to qs (goes ps mid _ l g) =
     let w = loop_sound text h from mid [] ps (omega arith) (omega arith) l in
     let c = complete_is text h ps qs mid to g.is in
@@ -127,7 +126,7 @@ rules_sound text h from to qs (goes ps mid _ l g) =
     let s = sym w.2 ∙ c.1 in
     (subst (λ (x : List Rule). RulesAt text h.parts from x) s w.1, subst (λ (x : List Rule). rows_of x ≤ 64) c.1 w.3, subst (λ (x : List Rule). length x ≡ h.rules) c.1 n)
 
-rules_complete : (text : List ℕ) (h : Header) (from : ℕ) (qs : List Rule) → RulesAt text h.parts from qs → rows_of qs ≤ 64 → length qs ≡ h.rules → (to : ℕ) × Rules text h from (got qs to)
+rules_complete : (text : List ℕ) (h : Numbers) (from : ℕ) (qs : List Rule) → RulesAt text h.parts from qs → rows_of qs ≤ 64 → length qs ≡ h.rules → (to : ℕ) × Rules text h from (got qs to)
 rules_complete text h from qs r m e =
     let w = loop_complete text h from [] qs r m (omega arith) in
     (w.0, goes qs w.0 _ w.1 (record { is = ap (λ (z : Result (List Rule) SheetFault). outcome z w.0) (is_complete text h qs e) }))

@@ -11,10 +11,9 @@ use Rattle.text.specs.Bytes.{stands, Run, spelling, decimal, signed}
 use Rattle.text.specs.Tokens.{low, high}
 use Rattle.lines.specs.declared.line.Comparison.{Comparison}
 use Rattle.lines.specs.declared.line.Comparison.TheVariants.{AtLeast, Equal}
-use Rattle.lines.specs.declared.line.Header.{Header}
 use Rattle.lines.specs.declared.line.Rule.{Rule}
 use Rattle.lines.specs.declared.line.Sum.{Sum}
-use Rattle.lines.specs.Lines.{empty, put, names, rows_for}
+use Rattle.lines.specs.Lines.{Numbers, empty, put, names, rows_for}
 use Rattle.opb.specs.Sheets.{Written, rows_of, Says, SaysRule}
 
 -- a token that is spelt in one way only
@@ -82,7 +81,7 @@ pub record SumAt (text : List ℕ) (n : ℕ) (l : Limit) (from to : ℕ) (q : Su
   pub rest : PairsAt text n l mid to (put empty part coef) q
 
 -- the header: how many parts there are and how many rules; the rest of its line says nothing
-pub record HeaderAt (text : List ℕ) (to : ℕ) (h : Header) : Type 0 where
+pub record HeaderAt (text : List ℕ) (to : ℕ) (h : Numbers) : Type 0 where
   pub p1 : ℕ
   pub p2 : ℕ
   pub p3 : ℕ

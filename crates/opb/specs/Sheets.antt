@@ -8,15 +8,14 @@ use Rattle.forms.specs.Forms.{Form, Then, Loop, Branch, From, Just, Give, Lifted
 use Rattle.text.specs.declared.reader.Limit.TheVariants.{Coefficient}
 use Rattle.text.specs.Bytes.{stands}
 use Rattle.text.specs.Tokens.{short, Limited, Gap}
-use Rattle.lines.specs.declared.line.Header.{Header}
 use Rattle.lines.specs.declared.line.Rule.{Rule}
 use Rattle.lines.specs.declared.line.Sum.{Sum}
-use Rattle.lines.specs.Lines.{HeaderLine, PriceLine, RuleAfter, Blanks}
+use Rattle.lines.specs.Lines.{Numbers, HeaderLine, PriceLine, RuleAfter, Blanks}
 use Rattle.rows.specs.Rows.{all_rows, front_of, table_with}
 
 -- A sheet as written: what its header announces, its price line, if any, and its rules.
 pub record Written : Type 0 where
-  pub header : Header
+  pub header : Numbers
   pub price : Option Sum
   pub rules : List Rule
 
@@ -31,7 +30,7 @@ abbrev pub expected : ℕ → ℕ → ℕ → Result (Unit {0}) SheetFault
 expected announced count start = cond (nat_lt count announced) (Ok tt) (Err (Count start))
 
 -- a rule after `count` others, which take that many rows, with the gap after it
-abbrev pub RuleLine : List ℕ → Header → ℕ → ℕ → Form Rule SheetFault
+abbrev pub RuleLine : List ℕ → Numbers → ℕ → ℕ → Form Rule SheetFault
 RuleLine text h count rows =
     From (λ start. Then (Lifted Text (Limited text Coefficient)) (λ a. Then (Give (expected h.rules count start)) (λ _.
     Then (RuleAfter text h.parts (64 - rows) a) (λ q. Then (Lifted Text (Gap text)) (λ _. Give (Ok q))))))
@@ -40,22 +39,22 @@ RuleLine text h count rows =
 abbrev pub rows_of : List Rule → ℕ
 rows_of qs = length (all_rows qs)
 
-abbrev pub NextRule : List ℕ → Header → List Rule → Form (List Rule) SheetFault
+abbrev pub NextRule : List ℕ → Numbers → List Rule → Form (List Rule) SheetFault
 NextRule text h qs = Then (RuleLine text h (length qs) (rows_of qs)) (λ q. Give (Ok (qs ++ q ∷ [])))
 
 abbrev pub unended : List ℕ → ℕ → Bool
 unended text i = nat_lt i (length text)
 
 -- there are as many rules as the header announces
-abbrev pub complete : List ℕ → Header → List Rule → Result (List Rule) SheetFault
+abbrev pub complete : List ℕ → Numbers → List Rule → Result (List Rule) SheetFault
 complete text h qs = cond (nat_lt (length qs) h.rules) (Err (Count (length text))) (Ok qs)
 
 -- rules up to the end of the text
-abbrev pub Rules : List ℕ → Header → Form (List Rule) SheetFault
+abbrev pub Rules : List ℕ → Numbers → Form (List Rule) SheetFault
 Rules text h = Then (Loop (unended text) (NextRule text h) []) (λ qs. Give (complete text h qs))
 
 -- what follows the header
-abbrev pub Body : List ℕ → Header → Form Written SheetFault
+abbrev pub Body : List ℕ → Numbers → Form Written SheetFault
 Body text h =
     Then (Lifted Text (Gap text)) (λ _. Then (Price text h.parts) (λ p. Then (Rules text h) (λ qs.
     Give (Ok (record { header = h; price = p; rules = qs })))))

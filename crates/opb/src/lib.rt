@@ -6,15 +6,11 @@ ghost use Rattle.opb.specs.Language.{SameLanguage};
 ghost use Rattle.opb.specs.Sheets.{OneReading};
 
 // A text says one sheet at most, is refused for one fault at most, and never both.
-pub fn reading_is_unique() -> u8
+pub fn reading_is_unique()
     ensures { OneReading }
-{
-    0
-}
+{}
 
 // What the reader's grammar makes of a text is what the language of sheets says of it, in both directions.
-pub fn reading_is_the_language() -> u8
+pub fn reading_is_the_language()
     ensures { SameLanguage }
-{
-    0
-}
+{}

@@ -1,41 +1,44 @@
--- Words that a loop writes one after another.
-use Rattle.std.proofs.Common.{◌≡◌, ℕ, ◌+◌, ◌<◌, ◌≤◌, List, [], ◌∷◌, ◌++◌, map, length, get_or, take, drop, set, ℤ, pos, negsuc, nat_abs, sym, ap, ◌∙◌, append_assoc, arith, length-set}
-use Rattle.std.proofs.lemmas.List.{take_more, take_more_set, take_all, map_more, drop-set-lt}
+-- Words that are made from others, and what is summed of them.
+use Rattle.std.proofs.Common.{◌≡◌, ℕ, suc, ◌+◌, ◌*◌, ◌<◌, ◌≤◌, List, [], ◌∷◌, ◌++◌, map, length, get_or, take, drop, set, sum, ℤ, pos, negsuc, nat_abs, sym, refl, ap, ◌∙◌, append_assoc, arith, ◌-ℤ◌, neg_ℤ, w32, SFits, to_z, of_z}
+use Rattle.std.specs.Iterator.{Yields}
+use Rattle.std.specs.Array.{list_steps}
+use Rattle.std.proofs.lemmas.Int.{ints}
+use Rattle.std.proofs.lemmas.List.{take_more_set, drop-set-lt}
+use Rattle.std.proofs.lemmas.List.Sums.{sum-map}
+use Rattle.std.proofs.lemmas.List.Recursion.{is_sum_by}
 use Rattle.rows.specs.Rows.{below, negatives}
 
--- the first i words are f of the first i of xs
-pub record Copied {X : Type 0} (f : X → ℤ) (xs : List X) (i : ℕ) (ws : List ℤ) : Type 0 where
-  pub forty : length ws ≡ 40
-  pub front : take i ws ≡ map f (take i xs)
+-- each of the words is what h makes of the one at its place
+pub mapped : {X : Type 0} (h : X → ℤ) (xs : List X) (ys : List ℤ) (d : X) → length ys ≡ length xs → ((i : ℕ) → i < length xs → get_or ys i (pos 0) ≡ h (get_or xs i d)) → ys ≡ map h xs
+mapped h [] [] d e f = refl
+mapped h [] (y ∷ ys) d e f = absurd (omega arith)
+mapped h (x ∷ xs) [] d e f = absurd (omega arith)
+mapped h (x ∷ xs) (y ∷ ys) d e f =
+    ap (λ (z : ℤ). z ∷ ys) (f 0 (omega arith)) ∙ ap (λ (zs : List ℤ). h x ∷ zs) (mapped h xs ys d (omega arith) (λ i l. f (suc i) (omega arith)))
 
-pub copied_more : {X : Type 0} (f : X → ℤ) (xs : List X) (i : ℕ) (ws : List ℤ) (d : X) (v : ℤ) → i < 40 → length xs ≡ 40 → Copied f xs i ws → v ≡ f (get_or xs i d) → Copied f xs (i + 1) (set ws i v)
-copied_more f xs i ws d v l n c e =
-    let h = c.forty in
-    let a : i < length ws = omega arith in
-    let b : i < length xs = omega arith in
-    record {
-      forty = length-set ws i v ∙ h;
-      front = take_more_set ws i v a ∙ ap (λ (x : List ℤ). x ++ v ∷ []) c.front ∙ ap (λ (x : ℤ). map f (take i xs) ++ x ∷ []) e ∙ sym (map_more f xs i d b);
-    }
+-- the word that comes after those of xs stands at their number
+pub word_at : (ws xs t : List ℤ) (x : ℤ) (u : List ℤ) → Yields list_steps ws xs t → t ≡ x ∷ u → get_or ws (length xs) (pos 0) ≡ x
+word_at ws [] t x u y e = ap (λ (zs : List ℤ). get_or zs 0 (pos 0)) (y ∙ e)
+word_at ws (z ∷ xs) t x u (j, s, y) e = ap (λ (zs : List ℤ). get_or zs (suc (length xs)) (pos 0)) s ∙ word_at j xs t x u y e
 
-pub copied_all : {X : Type 0} (f : X → ℤ) (xs : List X) (i : ℕ) (ws : List ℤ) → 40 ≤ i → length xs ≡ 40 → Copied f xs i ws → ws ≡ map f xs
-copied_all f xs i ws l n c =
-    let h = c.forty in
-    let a : length ws ≤ i = omega arith in
-    let b : length xs ≤ i = omega arith in
-    sym (take_all i ws a) ∙ c.front ∙ ap (map f) (take_all i xs b)
+-- a word whose sign is turned
+pub negated : (z : ℤ) → nat_abs z ≤ 100000000 → to_z w32 (of_z w32 (pos 0 -ℤ to_z w32 (of_z w32 z))) ≡ neg_ℤ z
+negated z h = grind (arith, ints)
 
--- one more coefficient
-negatives_push : (cs : List ℤ) (c : ℤ) → negatives (cs ++ c ∷ []) ≡ negatives cs + below c
-negatives_push [] c = omega arith
-negatives_push (x ∷ xs) c = let e = negatives_push xs c in omega arith
+pub negated_fits : (z : ℤ) → nat_abs z ≤ 100000000 → SFits w32 (pos 0 -ℤ to_z w32 (of_z w32 z))
+negated_fits z h = grind (arith, ints)
 
-pub negatives_more : (cs : List ℤ) (i : ℕ) → i < length cs → negatives (take (i + 1) cs) ≡ negatives (take i cs) + below (get_or cs i (pos 0))
-negatives_more cs i l = ap negatives (take_more cs i (pos 0) l) ∙ negatives_push (take i cs) (get_or cs i (pos 0))
+-- the sizes of the negative coefficients, summed
+pub sum_below : (cs : List ℤ) → sum (map below cs) ≡ negatives cs
+sum_below cs = sum-map below cs ∙ sym (is_sum_by negatives below refl (λ c ds. refl) cs)
 
-pub below_small : (c : ℤ) → below c ≤ nat_abs c
+below_small : (c : ℤ) → below c ≤ nat_abs c
 below_small (pos a) = omega arith
 below_small (negsuc a) = omega arith
+
+pub negatives_small : (cs : List ℤ) (n : ℕ) → ((i : ℕ) → nat_abs (get_or cs i (pos 0)) ≤ n) → negatives cs ≤ n * length cs
+negatives_small [] n h = omega arith
+negatives_small (c ∷ cs) n h = omega (arith, below_small c, h 0, negatives_small cs n (λ i. h (suc i)))
 
 -- a word, and forty after it
 pub row_put : (T U ws : List ℤ) (start : ℕ) (v u : ℤ) → start < length T → U ≡ take (start + 1) (set T start v) ++ (ws ++ drop (start + 1 + 40) (set T start v)) → v ≡ u → U ≡ take start T ++ (u ∷ ws ++ drop (start + 41) T)

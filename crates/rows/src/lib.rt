@@ -1,125 +1,84 @@
 // Normal form: how written sums and rules become words of the table.
 #![tactic(auto)]
 
-ghost use Rattle.std.specs.Prelude.{◌≡◌, ℕ, ◌+◌, ◌-◌, ◌*◌, ◌<◌, ◌≤◌, [], ◌∷◌, ◌++◌, length, take, drop, pos, ◌+ℤ◌, neg_ℤ, slice_set, unsigned_abs};
+ghost use Rattle.std.specs.Prelude.{◌≡◌, ℕ, ◌+◌, ◌-◌, ◌*◌, ◌<◌, ◌≤◌, [], ◌∷◌, ◌++◌, length, map, take, drop, pos, slice_set, unsigned_abs};
+ghost use Rattle.std.specs.Option.{option_copied};
 ghost use Rattle.lines.specs.Lines.{rows_for};
-ghost use Rattle.rows.specs.Rows.{words, turn, below, negatives, floored, at_least, rule_rows, base_of, front_of, Narrow, NarrowPrice, Appends, Fronts};
+ghost use Rattle.rows.specs.Rows.{given, words, rule_rows, base_of, front_of, Narrow, NarrowPrice, Appends, Fronts};
 
-use lines::line::{Comparison, Rule, Sum};
+pub mod normal;
+
+use lines::line::{Comparison, MOST_PARTS, Parts, Rule, Sum};
+use normal::AtLeast;
+
+// The words of a table.
+pub const WORDS: usize = 2668;
+
+// The rows of a table.
+pub const ROWS: usize = 64;
+
+// The words in front of the rows: the weights, and four before them.
+const FRONT_WORDS: usize = 44;
+
+const WEIGHTS: usize = 4;
+
+// The words of a row: its degree and its coefficients.
+const ROW_WORDS: usize = 41;
+
+// The coefficient of a part, 0 where it is not named.
+fn given(term: Option<i32>) -> i32
+    ensures { result ≡ given term }
+{
+    term.unwrap_or(0)
+}
 
 // The coefficients of a sum, a word for each part.
-pub fn coefficients(sum: &Sum) -> [i32; 40]
+#[tactic(auto, unfolding(crate::specs::Rows::words))]
+pub fn coefficients(sum: &Sum) -> [i32; MOST_PARTS]
     ensures { result ≡ words sum.now }
 {
-    let mut words = [0; 40];
-    for i in 0..40 {
-        words[i] = sum.terms[i].unwrap_or(0);
-    }
-    words
+    words_of(&sum.terms)
 }
 
-// The same coefficients with every sign turned.
-fn turned(coefficients: &[i32; 40]) -> [i32; 40]
-    requires { Narrow coefficients.now }
-    ensures { result ≡ turn coefficients.now }
+fn words_of(terms: &[Option<i32>; MOST_PARTS]) -> [i32; MOST_PARTS]
+    ensures { result ≡ map given terms.now }
 {
-    let mut words = [0; 40];
-    for i in 0..40 {
-        words[i] = -coefficients[i];
-    }
-    words
-}
-
-// How far a coefficient lies below 0.
-fn size_below(coefficient: i32) -> u32
-    ensures { result ≡ below coefficient }
-{
-    if coefficient < 0 {
-        coefficient.unsigned_abs()
-    } else {
-        0
-    }
-}
-
-// The sizes of the negative coefficients together.
-fn negative_sizes(coefficients: &[i32; 40]) -> u32
-    requires { Narrow coefficients.now }
-    ensures value { result ≡ negatives coefficients.now }
-    ensures bound { result ≤ 40000000 }
-{
-    let mut sum = 0;
-    for i in 0..40 {
-        sum += size_below(coefficients[i]);
-    }
-    sum
-}
-
-// The degree of a sum that is at least `bound`.
-fn degree(coefficients: &[i32; 40], bound: i32) -> i32
-    requires narrow { Narrow coefficients.now }
-    requires low { unsigned_abs bound ≤ 100000000 }
-    ensures { result ≡ pos (floored (bound +ℤ pos (negatives coefficients.now))) }
-{
-    let raised = bound + negative_sizes(coefficients) as i32;
-    if raised < 0 { 0 } else { raised }
-}
-
-// Writes the row of a sum that is at least `bound`.
-fn put_row(table: &mut [i32], row: usize, coefficients: &[i32; 40], bound: i32)
-    requires whole { length table.old ≡ 2668 }
-    requires room { row < 64 }
-    requires narrow { Narrow coefficients.now }
-    requires low { unsigned_abs bound ≤ 100000000 }
-    ensures { Appends row table.old table.new (at_least coefficients.now bound ∷ []) }
-{
-    let start = 44 + 41 * row;
-    table[start] = degree(coefficients, bound);
-    put_words(table, start + 1, coefficients);
+    terms.map(given)
 }
 
 // Writes forty words from this place on.
-pub fn put_words(table: &mut [i32], start: usize, words: &[i32; 40])
+pub fn put_words(table: &mut [i32], start: usize, words: &[i32; MOST_PARTS])
     requires { start + 40 ≤ length table.old }
     ensures { table.new ≡ take start table.old ++ (words.now ++ drop (start + 40) table.old) }
 {
-    table[start..start + 40].copy_from_slice(words);
+    table[start..start + MOST_PARTS].copy_from_slice(words);
 }
 
 // Writes the rows of a rule, from this row on.
-pub fn put_rule(table: &mut [i32], row: usize, rule: &Rule)
-    requires whole { length table.old ≡ 2668 }
+pub fn put_rule(table: &mut [i32; WORDS], row: usize, rule: &Rule)
     requires room { row + rows_for rule.now.comparison ≤ 64 }
     requires narrow { Narrow (words rule.now.sum) }
     requires low { unsigned_abs rule.now.bound ≤ 100000000 }
     ensures { Appends row table.old table.new (rule_rows rule.now) }
 {
-    let coefficients = coefficients(&rule.sum);
-    put_row(table, row, &coefficients, rule.bound);
+    let least = AtLeast {
+        coefficients: normal::Coefficients::of(&rule.sum),
+        bound: rule.bound,
+    };
+    least.put(table, row);
     match rule.comparison {
         Comparison::AtLeast => {}
-        Comparison::Equal => {
-            let coefficients = turned(&coefficients);
-            put_row(table, row + 1, &coefficients, -rule.bound);
-        }
+        Comparison::Equal => least.turned().put(table, row + 1),
     }
 }
 
-// c0: the negative prices together.
-pub fn base(prices: &[i32; 40]) -> i32
-    requires { Narrow prices.now }
-    ensures { result ≡ base_of prices.now }
-{
-    -(negative_sizes(prices) as i32)
-}
-
 // Writes the words in front of the rows.
-pub fn put_front(table: &mut [i32], parts: usize, rows: usize, price: &Option<Sum>)
-    requires whole { length table.old ≡ 2668 }
-    requires small { (parts ≤ 40) × (rows ≤ 64) }
-    requires narrow { NarrowPrice price.now }
-    ensures { Fronts table.old table.new (front_of parts rows price.now) }
+pub fn put_front(table: &mut [i32; WORDS], parts: Parts, rows: usize, price: Option<&Sum>)
+    requires small { rows ≤ 64 }
+    requires narrow { NarrowPrice (option_copied price) }
+    ensures { Fronts table.old table.new (front_of parts.number rows (option_copied price.entry)) }
 {
-    table[0] = parts as i32;
+    table[0] = parts.number as i32;
     table[1] = rows as i32;
     if let Some(sum) = price {
         put_price(table, sum);
@@ -127,13 +86,12 @@ pub fn put_front(table: &mut [i32], parts: usize, rows: usize, price: &Option<Su
 }
 
 // Writes c0, that there is a price line, and the weights.
-fn put_price(table: &mut [i32], sum: &Sum)
-    requires whole { length table.old ≡ 2668 }
-    requires narrow { Narrow (words sum.now) }
+fn put_price(table: &mut [i32; WORDS], sum: &Sum)
+    requires { Narrow (words sum.now) }
     ensures { table.new ≡ take 4 (slice_set (slice_set table.old 2 (base_of (words sum.now))) 3 (pos 1)) ++ (words sum.now ++ drop 44 table.old) }
 {
-    let prices = coefficients(sum);
-    table[2] = base(&prices);
+    let prices = normal::Coefficients::of(sum);
+    table[2] = prices.base();
     table[3] = 1;
-    put_words(table, 4, &prices);
+    put_words(table, WEIGHTS, &prices.words);
 }

@@ -7,7 +7,7 @@ use Rattle.text.specs.Reading.{Step}
 use Rattle.lines.specs.declared.line.Comparison.{Comparison}
 use Rattle.lines.specs.declared.line.Comparison.TheVariants.{AtLeast, Equal}
 use Rattle.lines.specs.declared.line.Rule.{Rule}
-use Rattle.lines.specs.Lines.{rows_for}
+use Rattle.lines.specs.Lines.{Numbers, rows_for}
 use Rattle.rows.specs.Rows.{Row, all_rows, rule_rows, rows_by, table_with, Lined, Narrow, words, Appends}
 use Rattle.rows.proofs.Laid.{turn_narrow, lined_append}
 use Rattle.sheet.specs.Reads.{Holds, RulesRead}
@@ -16,7 +16,6 @@ use Rattle.forms.specs.Forms.{Onward, Loop, Give, outcome}
 use Rattle.forms.proofs.Progress.{onward_from, onward_then, onward_lifted, forward_then, forward_give, forward_lifted}
 use Rattle.text.proofs.Progress.{onward_limited, forward_gap}
 use Rattle.text.proofs.Steps.{step_goes, step_stops, step_give, Going, going_done, going_stops}
-use Rattle.lines.specs.declared.line.Header.{Header}
 use Rattle.lines.proofs.Progress.{forward_rule}
 use Rattle.opb.specs.Sheets.{expected, complete, rows_of, RuleLine, NextRule, unended}
 
@@ -74,7 +73,7 @@ so_far_more T U V rows count more qs q s n e fits a =
       few = omega arith;
     }
 
-module _ (h : Header) (count rows : ℕ) (qs : List Rule) (c : count ≡ length qs) (n : rows ≡ rows_of qs) (r s : Reader) where
+module _ (h : Numbers) (count rows : ℕ) (qs : List Rule) (c : count ≡ length qs) (n : rows ≡ rows_of qs) (r s : Reader) where
   here : (x : Result Rule SheetFault) → Step (λ t. RuleLine t h count rows) r s x → Step (λ t. RuleLine t h (length qs) (rows_of qs)) r s x
   here x f = subst (λ (i : ℕ). Step (λ t. RuleLine t h i (rows_of qs)) r s x) c (subst (λ (i : ℕ). Step (λ t. RuleLine t h count i) r s x) n f)
 
@@ -85,7 +84,7 @@ module _ (h : Header) (count rows : ℕ) (qs : List Rule) (c : count ≡ length 
   pub next_stops : (e : SheetFault) → Step (λ t. RuleLine t h count rows) r s (Err e) → Step (λ t. NextRule t h qs) r s (Err e)
   next_stops e f = step_stops _ _ _ _ _ _ (here (Err e) f) refl
 
-pub rule_onward : (text : List ℕ) (h : Header) (count rows : ℕ) → Onward (RuleLine text h count rows)
+pub rule_onward : (text : List ℕ) (h : Numbers) (count rows : ℕ) → Onward (RuleLine text h count rows)
 rule_onward text h count rows =
     onward_from _ (λ start. onward_then _ _ (onward_lifted _ _ (onward_limited text Coefficient)) (λ a. forward_then _ _ (forward_give _) (λ _.
     forward_then _ _ (forward_rule text _ _ a) (λ q. forward_then _ _ (forward_lifted _ _ (forward_gap text)) (λ _. forward_give _)))))
@@ -96,14 +95,14 @@ open_end text i h = grind arith
 pub at_end : (text : List ℕ) (i : ℕ) → length text ≤ i → unended text i ≡ false
 at_end text i h = grind arith
 
-pub too_few : (text : List ℕ) (h : Header) (qs : List Rule) (count at : ℕ) → count ≡ length qs → at ≡ length text → count < h.rules → Err (Count at) ≡ complete text h qs
+pub too_few : (text : List ℕ) (h : Numbers) (qs : List Rule) (count at : ℕ) → count ≡ length qs → at ≡ length text → count < h.rules → Err (Count at) ≡ complete text h qs
 too_few text h qs count at c e l = let m : length qs < h.rules = omega arith in rw e (grind arith)
 
-pub enough : (text : List ℕ) (h : Header) (qs : List Rule) (count : ℕ) → count ≡ length qs → h.rules ≤ count → Ok qs ≡ complete text h qs
+pub enough : (text : List ℕ) (h : Numbers) (qs : List Rule) (count : ℕ) → count ≡ length qs → h.rules ≤ count → Ok qs ≡ complete text h qs
 enough text h qs count c l = let m : h.rules ≤ length qs = omega arith in grind arith
 
 -- the ways in which the rules end: r is where they began, s where the loop has come to
-module _ (h : Header) (r s : Reader) (T U : List ℤ) (rows count : ℕ) (qs : List Rule) (g : Going {E = SheetFault} unended (λ t. NextRule t h) r [] s qs) (f : SoFar T U rows count qs) where
+module _ (h : Numbers) (r s : Reader) (T U : List ℤ) (rows count : ℕ) (qs : List Rule) (g : Going {E = SheetFault} unended (λ t. NextRule t h) r [] s qs) (f : SoFar T U rows count qs) where
   -- a rule is wrong
   pub rules_break : (u : Reader) (V : List ℤ) (e : SheetFault) (x : Result ℕ SheetFault) → s.at < length s.text.now → Step (λ t. RuleLine t h count rows) s u (Err e) → x ≡ Err e → RulesRead h r u T V x
   rules_break u V e x l k q =

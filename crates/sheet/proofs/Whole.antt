@@ -11,9 +11,8 @@ use Rattle.text.specs.declared.reader.Reader.{Reader}
 use Rattle.text.specs.Reading.{Step}
 use Rattle.text.specs.Tokens.{short, Gap}
 use Rattle.text.proofs.Steps.{step_goes, step_stops, step_give, step_well}
-use Rattle.lines.specs.declared.line.Header.{Header}
 use Rattle.lines.specs.declared.line.Sum.{Sum}
-use Rattle.lines.specs.Lines.{HeaderLine}
+use Rattle.lines.specs.Lines.{Numbers, HeaderLine}
 use Rattle.rows.specs.Rows.{laid, table_with, front_of, all_rows, Fronts}
 use Rattle.sheet.specs.Reads.{Filled, Zeros, BodyRead, Said, TextRead, Reading}
 use Rattle.opb.specs.Sheets.{Written, Price, Rules, Body, Whole, Refused, table_of}
@@ -30,7 +29,7 @@ unfolding laid
 zeros_table T h = h ∙ sym (replicate-append-replicate 44 2624 (pos 0))
 
 -- what follows the header: the gap from r to s, the price line to u, the rules to v
-module _ (h : Header) (r s u : Reader) (gap : Step Gap r s (Ok tt)) where
+module _ (h : Numbers) (r s u : Reader) (gap : Step Gap r s (Ok tt)) where
   pub price_wrong : (U : List ℤ) (e : SheetFault) (x : Result (Unit {0}) SheetFault) → Step (λ t. Price t h.parts) s u (Err e) → x ≡ Err e → BodyRead h r u U x
   price_wrong U e x p q = rw q (step_goes _ _ _ _ _ _ _ (step_well _ _ _ _ _ gap) (step_stops _ _ _ _ _ _ p refl))
 
@@ -60,7 +59,7 @@ module _ (text : List ℕ) (fits : Ok tt ≡ short text) (r : Reader) (same : r.
   pub header_wrong : (s : Reader) (U : List ℤ) (e : TextFault) (x : Result (Unit {0}) SheetFault) → Step HeaderLine r s (Err e) → x ≡ Err (Text e) → TextRead text U x
   header_wrong s U e x k q = rw q (start _ (stops _ (fault e k.reads)))
 
-  pub whole_read : (s u : Reader) (h : Header) (U : List ℤ) (x : Result (Unit {0}) SheetFault) → Step HeaderLine r s (Ok h) → BodyRead h s u U x → TextRead text U x
+  pub whole_read : (s u : Reader) (h : Numbers) (U : List ℤ) (x : Result (Unit {0}) SheetFault) → Step HeaderLine r s (Ok h) → BodyRead h s u U x → TextRead text U x
   whole_read s u h U (Ok _) k b =
       let w = step_goes _ Body _ _ _ _ _ (step_well Text _ _ _ _ k) b.read in
       record { sheet = b.sheet; says = (u.at, start _ w.reads); table = b.table }

@@ -1,11 +1,11 @@
 -- What the calls that read a sheet have done.
+use Rattle.lines.specs.Lines.{Numbers}
 use Rattle.std.specs.Prelude.{◌≡◌, ℕ, ◌≤◌, List, [], length, replicate, ℤ, pos, Ok, Err, Result, ◌≢◌}
 use Rattle.faults.specs.declared.fault.RunFault.{RunFault}
 use Rattle.faults.specs.declared.fault.RunFault.TheVariants as run
 use Rattle.faults.specs.declared.fault.SheetFault.{SheetFault}
 use Rattle.text.specs.declared.reader.Reader.{Reader}
 use Rattle.text.specs.Reading.{Step}
-use Rattle.lines.specs.declared.line.Header.{Header}
 use Rattle.lines.specs.declared.line.Rule.{Rule}
 use Rattle.rows.specs.Rows.{all_rows, table_with}
 use Rattle.meaning.specs.Means.{Means}
@@ -18,14 +18,14 @@ abbrev pub Holds : List ℤ → List ℤ → List Rule → Type 0
 Holds T U qs = (front : List ℤ) → length front ≡ 44 → T ≡ table_with front [] → U ≡ table_with front (all_rows qs)
 
 -- rules were read into the table, and they take that many rows
-pub record Filled (h : Header) (r s : Reader) (T U : List ℤ) (rows : ℕ) : Type 0 where
+pub record Filled (h : Numbers) (r s : Reader) (T U : List ℤ) (rows : ℕ) : Type 0 where
   pub rules : List Rule
   pub read : Step (λ t. Rules t h) r s (Ok rules)
   pub count : rows ≡ rows_of rules
   pub few : rows ≤ 64
   pub holds : Holds T U rules
 
-abbrev pub RulesRead : Header → Reader → Reader → List ℤ → List ℤ → Result ℕ SheetFault → Type 0
+abbrev pub RulesRead : Numbers → Reader → Reader → List ℤ → List ℤ → Result ℕ SheetFault → Type 0
 RulesRead h r s T U (Ok rows) = Filled h r s T U rows
 RulesRead h r s T U (Err e) = Step (λ t. Rules t h) r s (Err e)
 
@@ -34,12 +34,12 @@ abbrev pub Zeros : List ℤ → Type 0
 Zeros T = T ≡ replicate 2668 (pos 0)
 
 -- what follows the header was read into a table of zeros
-pub record Laid (h : Header) (r s : Reader) (U : List ℤ) : Type 0 where
+pub record Laid (h : Numbers) (r s : Reader) (U : List ℤ) : Type 0 where
   pub sheet : Written
   pub read : Step (λ t. Body t h) r s (Ok sheet)
   pub table : U ≡ table_of sheet
 
-abbrev pub BodyRead : Header → Reader → Reader → List ℤ → Result (Unit {0}) SheetFault → Type 0
+abbrev pub BodyRead : Numbers → Reader → Reader → List ℤ → Result (Unit {0}) SheetFault → Type 0
 BodyRead h r s U (Ok _) = Laid h r s U
 BodyRead h r s U (Err e) = Step (λ t. Body t h) r s (Err e)
 

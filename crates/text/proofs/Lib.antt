@@ -4,5 +4,4 @@ pub mod Progress
 pub mod Shown
 pub mod Made
 pub mod Spelling
-pub mod Limits
 pub mod Exact

@@ -6,7 +6,7 @@
 // it is `Cut` at the text's length.
 #![tactic(auto)]
 
-ghost use Rattle.std.specs.Prelude.{◌≡◌, ℕ, ◌+◌, ◌-◌, ◌<◌, ◌≤◌, min, length, drop, IfOk, Ok, Err, slice_index};
+ghost use Rattle.std.specs.Prelude.{◌≡◌, ℕ, ◌+◌, ◌-◌, ◌<◌, ◌≤◌, min, length, IfOk, Ok, Err};
 ghost use Rattle.std.specs.List.{between};
 ghost use Rattle.text.specs.Bytes.{belongs, stands, Run, spelling, decimal, number_of};
 ghost use Rattle.text.specs.Tokens.{short, missing, Pass, Byte, Bytes, Spelt, Digits, Minus, Number as NumberForm, Name as NameForm, Limited, Gap, Comment, Line, low, high, limited, clamp};
@@ -15,7 +15,7 @@ ghost use Rattle.text.specs.Reading.{Step, told, seen, Covers, number_said, inde
 pub mod reader;
 
 use faults::fault::TextFault;
-use reader::{Class, Limit, Reader, Sign, Token};
+use reader::{Class, Kind, Limit, Reader, Sign, Token};
 
 // The most bytes that a text may have.
 pub const TEXT_BYTES: usize = 16_384;
@@ -34,13 +34,14 @@ pub fn check_length(text: &[u8]) -> Result<(), TextFault>
 }
 
 impl Class {
+    #[tactic(auto, unfolding(crate::specs::Bytes::belongs))]
     pub fn has(self, b: u8) -> bool
         ensures { result ≡ belongs self b }
     {
         match self {
-            Class::Digit => 48 <= b && b <= 57,
-            Class::Blank => b == 32 || b == 9 || b == 10 || b == 13,
-            Class::Inline => b != 10,
+            Class::Digit => b.is_ascii_digit(),
+            Class::Blank => matches!(b, b' ' | b'\t' | b'\n' | b'\r'),
+            Class::Inline => b != b'\n',
         }
     }
 }
@@ -50,18 +51,16 @@ fn run_end(text: &[u8], from: usize, class: Class) -> usize
     requires { from ≤ length text.now }
     ensures { Run class text.now from result }
 {
-    let mut end = from;
-    while end < text.len() && class.has(text[end]) {
-        end += 1;
-    }
-    end
+    from + text[from..].iter().take_while(|b| class.has(**b)).count()
 }
 
 // The number that the digits write or, where that is larger, one that is past every limit.
+#[tactic(auto, unfolding(crate::specs::Bytes::decimal))]
 fn capped(digits: &[u8]) -> u32
     ensures { result ≡ min 100000001 (decimal digits.now) }
 {
     let mut sum: u32 = 0;
+    // a fold would be no shorter, and its closure could not be proved to stay in range
     for b in digits {
         sum = (sum * 10 + u32::from(b.saturating_sub(48))).min(PAST_EVERY_LIMIT);
     }
@@ -120,7 +119,7 @@ impl<'a> Reader<'a> {
     pub fn stands_at(&self, b: u8) -> bool
         ensures { result ≡ stands self.now.text.now b self.now.at }
     {
-        self.at < self.text.len() && self.text[self.at] == b
+        self.text.get(self.at) == Some(&b)
     }
 
     // What is wrong here with a token that begins at `start`.
@@ -135,6 +134,7 @@ impl<'a> Reader<'a> {
     }
 
     // Passes as many bytes of the class as there are.
+    #[tactic(auto, using(crate::specs::Tokens::passed))]
     pub fn pass(&mut self, class: Class)
         ensures { Step (Pass class) self.old self.new (Ok tt) }
     {
@@ -153,6 +153,7 @@ impl<'a> Reader<'a> {
     }
 
     // Passes one or more digits.
+    #[tactic(auto, using(crate::specs::Tokens::some, crate::specs::Tokens::none, crate::proofs::Runs::empty))]
     fn digits(&mut self, start: usize) -> Result<(), TextFault>
         ensures { Step (λ t. Digits t start) self.old self.new (told (decimal (between self.old.at self.new.at self.old.text.now)) result) }
     {
@@ -169,22 +170,25 @@ impl<'a> Reader<'a> {
     fn minus(&mut self) -> bool
         ensures { Step Minus self.old self.new (Ok result) }
     {
-        if self.stands_at(b'-') {
-            self.at += 1;
-            return true;
-        }
-        if self.stands_at(b'+') {
+        let minus = self.stands_at(b'-');
+        if minus || self.stands_at(b'+') {
             self.at += 1;
         }
-        false
+        minus
     }
 
-    // The bytes from `at` up to here, of the text itself.
-    fn since(&self, at: usize) -> &'a [u8]
+    // The token of this kind that began at `at` and ends here.
+    fn token(&self, kind: Kind, at: usize) -> Token<'a>
         requires { at ≤ self.now.at }
-        ensures { result.now ≡ between at self.now.at self.now.text.now }
+        ensures kind { result.kind ≡ kind }
+        ensures at { result.at ≡ at }
+        ensures bytes { result.bytes.now ≡ between at self.now.at self.now.text.now }
     {
-        &self.text[at..self.at]
+        Token {
+            kind,
+            at,
+            bytes: &self.text[at..self.at],
+        }
     }
 
     // A number: an optional sign and digits.
@@ -196,8 +200,7 @@ impl<'a> Reader<'a> {
         let at = self.at;
         self.minus();
         self.digits(at)?;
-        let bytes = self.since(at);
-        Ok(Token::Number { at, bytes })
+        Ok(self.token(Kind::Number, at))
     }
 
     // The name of a part: `x` and digits.
@@ -209,8 +212,7 @@ impl<'a> Reader<'a> {
         let at = self.at;
         self.byte(b'x', at)?;
         self.digits(at)?;
-        let bytes = self.since(at);
-        Ok(Token::Name { at, bytes })
+        Ok(self.token(Kind::Name, at))
     }
 
     // A token that is spelt in one way only.
@@ -221,8 +223,7 @@ impl<'a> Reader<'a> {
     {
         let at = self.at;
         self.spell(sign.spelling(), at)?;
-        let bytes = self.since(at);
-        Ok(Token::Sign { at, bytes })
+        Ok(self.token(Kind::Sign, at))
     }
 
     // Passes these bytes, of a token that begins at `start`.
@@ -275,9 +276,9 @@ impl Token<'_> {
     pub fn value(self, limit: Limit) -> Result<i32, TextFault>
         ensures { result ≡ number_said limit self.entry }
     {
-        match self {
-            Token::Number { at, bytes } => value_within(bytes, limit, at),
-            Token::Name { at, .. } | Token::Sign { at, .. } => Err(TextFault::Misplaced(at)),
+        match self.kind {
+            Kind::Number => value_within(self.bytes, limit, self.at),
+            Kind::Name | Kind::Sign => Err(TextFault::Misplaced(self.at)),
         }
     }
 
@@ -285,9 +286,9 @@ impl Token<'_> {
     pub fn index(self) -> usize
         ensures { result ≡ min 100000001 (index_said self.entry) }
     {
-        match self {
-            Token::Name { bytes, .. } => capped(after_first(bytes)) as usize,
-            Token::Number { .. } | Token::Sign { .. } => 0,
+        match self.kind {
+            Kind::Name => capped(self.bytes.get(1..).unwrap_or_default()) as usize,
+            Kind::Number | Kind::Sign => 0,
         }
     }
 }
@@ -297,35 +298,20 @@ fn value_within(bytes: &[u8], limit: Limit, at: usize) -> Result<i32, TextFault>
     ensures { result ≡ limited limit at (number_of bytes.now) }
 {
     let value = clamped(bytes);
-    if value < limit.low() || limit.high() < value {
-        return Err(TextFault::Beyond(at));
+    if (limit.low()..=limit.high()).contains(&value) {
+        Ok(value)
+    } else {
+        Err(TextFault::Beyond(at))
     }
-    Ok(value)
 }
 
 // The number that a sign and digits, or digits alone, write or, where that is larger in size, one past every limit.
 fn clamped(bytes: &[u8]) -> i32
     ensures { result ≡ clamp (number_of bytes.now) }
 {
-    let first = first_of(bytes);
-    if first == b'-' {
-        -(capped(after_first(bytes)) as i32)
-    } else if first == b'+' {
-        capped(after_first(bytes)) as i32
-    } else {
-        capped(bytes) as i32
+    match bytes {
+        [b'-', digits @ ..] => -(capped(digits) as i32),
+        [b'+', digits @ ..] => capped(digits) as i32,
+        digits => capped(digits) as i32,
     }
-}
-
-// The first byte, or 0 where there is none.
-fn first_of(bytes: &[u8]) -> u8
-    ensures { result ≡ slice_index bytes.now 0 }
-{
-    if bytes.is_empty() { 0 } else { bytes[0] }
-}
-
-fn after_first(bytes: &[u8]) -> &[u8]
-    ensures { result.now ≡ drop 1 bytes.now }
-{
-    if bytes.is_empty() { bytes } else { &bytes[1..] }
 }
