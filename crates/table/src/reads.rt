@@ -49,12 +49,12 @@ impl<'a> Checked<'a> {
     pub fn weights(&self) -> &'a [i32]
         ensures long { length result.now ≡ 40 }
         ensures each { (i : ℕ) → i < 40 → slice_index_or result.now i (pos 0) ≡ weight self.now.words.now i }
+        ensures bound { (i : ℕ) → i < 40 → unsigned_abs (slice_index_or result.now i (pos 0)) ≤ 100000 }
     {
         let words = self.words;
-        &words[WEIGHTS..WEIGHTS + PARTS]
+        &words[WEIGHTS..RULES]
     }
 
-    #[tactic(auto, using(crate::proofs::Places::weight_most))]
     pub fn weight(&self, part: usize) -> i32
         requires { part < 40 }
         ensures value { result ≡ weight self.now.words.now part }
@@ -81,7 +81,6 @@ impl<'a> Checked<'a> {
         self.row(rule).degree()
     }
 
-    #[tactic(auto, using(crate::proofs::Places::coefficient_most))]
     pub fn coefficient(&self, rule: usize, part: usize) -> i32
         requires { (rule < 64) × (part < 40) }
         ensures value { result ≡ coefficient self.now.words.now rule part }
@@ -103,6 +102,7 @@ impl<'a> Row<'a> {
     pub fn coefficients(&self) -> &'a [i32]
         ensures long { length result.now ≡ 40 }
         ensures each { (i : ℕ) → i < 40 → slice_index_or result.now i (pos 0) ≡ coefficient self.now.sheet.words.now self.now.number i }
+        ensures bound { (i : ℕ) → i < 40 → unsigned_abs (slice_index_or result.now i (pos 0)) ≤ 1000000 }
     {
         let words = self.sheet.words;
         let first = RULES + ROW * self.number + 1;

@@ -1,6 +1,9 @@
-use Rattle.std.proofs.Common.{pos, drop, ◌∙◌}
-use Rattle.std.proofs.lemmas.List.{get_or-take, get_or-drop}
+use Rattle.std.proofs.Common.{nat_abs, ap, arith}
+use Rattle.table.proofs.Places.{between, weight_most}
 use Rattle.table.proofs.checked.Checked.weights.Goals as goal
 
 pub returns-clause-each : goal.returns-clause-each
-returns-clause-each c = λ i l. get_or-take 40 (drop 4 c.args.self.now.words.now) i (pos 0) l ∙ get_or-drop 4 c.args.self.now.words.now i (pos 0)
+returns-clause-each c = between c.args.self.now.words.now 4 44
+
+pub returns-clause-bound : goal.returns-clause-bound
+returns-clause-bound c = λ i l. omega (arith, ap nat_abs (between c.args.self.now.words.now 4 44 i l), weight_most _ c.args.self.now.fine i l)
