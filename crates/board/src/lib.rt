@@ -88,7 +88,7 @@ impl Board {
     }
 
     // How the rule of the row fares.
-    fn fares(&self, row: &Row) -> Judgement
+    pub fn fares(&self, row: &Row) -> Judgement
         ensures { result ≡ judged row.now.sheet.words.now row.now.number (choice self.now.marks) }
     {
         Judgement {
