@@ -2,3 +2,4 @@ mod Spelling
 mod Reading
 mod Taking
 mod Counting
+mod Sums

@@ -1,5 +1,6 @@
 -- Words that are read one by one.
-use Rattle.std.proofs.Common.{◌≡◌, ℕ, ◌+◌, ◌<◌, ◌≤◌, List, [], ◌∷◌, ◌++◌, map, length, get_or, take, ℤ, Ok, Err, sym, refl, ap, ◌∙◌, subst}
+use Rattle.std.proofs.Common.{◌≡◌, ℕ, ◌+◌, ◌<◌, ◌≤◌, List, [], ◌∷◌, ◌++◌, map, length, get_or, take, ℤ, true, false, Ok, Err, Result, MatchResult, is_ok, sym, refl, ap, ◌∙◌, subst}
+use Rattle.std.proofs.lemmas.Bool.{both_ways}
 use Rattle.std.proofs.lemmas.List.{take_more, take_all, get_or-map, length-map}
 use Rattle.rules.specs.declared.Mark.{Mark}
 use Rattle.board.specs.Board.{bare, Named, Marks, Refused}
@@ -37,3 +38,12 @@ module _ {X : Type 0} (f : X → List ℕ) (T : List ℤ) (xs : List X) (i : ℕ
     pub refused_here : (t : Trouble) (after : List Mark) → Named T word ms (Err t) after → Refused T (map f xs) (record { index = i; trouble = t }) ms
     refused_here t after n =
         record { within = within; before = so_far; refused = subst (λ (v : List ℕ). Named T v ms (Err t) ms) here (refused_same T word ms after t n) }
+
+-- what a result was, by whether it is Ok
+pub was_err : (r : Result Unit Trouble) (Q : Unit {0} → Type 0) (P : Trouble → Type 0) → is_ok r ≡ false → MatchResult r Q P → (t : Trouble) × (r ≡ Err t) × P t
+was_err (Ok x) Q P e m = absurd (both_ways true e refl)
+was_err (Err t) Q P e m = (t, refl, m)
+
+pub was_ok : (r : Result Unit Trouble) → is_ok r ≡ true → r ≡ Ok tt
+was_ok (Ok x) e = refl
+was_ok (Err t) e = absurd (both_ways false refl e)

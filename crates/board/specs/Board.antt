@@ -74,9 +74,12 @@ TakesAsSaid words ms = (i : ℕ) → i < 40 → Decides (choice ms i) (SaysTaken
 abbrev pub judged : List ℤ → ℕ → (ℕ → Bool) → Judgement
 judged T k x = record { reached = reached T k x; needed = degree T k }
 
--- 1 for a rule that the choice breaks, else 0; and how many it breaks
+-- the choice breaks a rule; 1 for such a rule, else 0; and how many it breaks
+abbrev pub breaks : List ℤ → (ℕ → Bool) → ℕ → Bool
+breaks T x k = nat_lt (reached T k x) (degree T k)
+
 abbrev pub is_broken : List ℤ → (ℕ → Bool) → ℕ → ℕ
-is_broken T x k = cond (nat_lt (reached T k x) (degree T k)) 1 0
+is_broken T x k = cond (breaks T x k) 1 0
 
 abbrev pub broken_rules : List ℤ → (ℕ → Bool) → ℕ
 broken_rules T x = total (is_broken T x) (rules_of T)

@@ -5,11 +5,11 @@
 // a sheet and what it costs is said by the meaning of the sheet's table.
 #![tactic(auto)]
 
-ghost use Rattle.std.specs.Prelude.{◌≡◌, ℕ, ◌<◌, ◌≤◌, map, IfOk, string_bytes, Decides, MatchOption, unsigned_abs};
-ghost use Rattle.rules.specs.Rule.{kept};
+ghost use Rattle.std.specs.Prelude.{◌≡◌, ℕ, ◌<◌, ◌≤◌, length, map, pos, IfOk, string_bytes, Decides, MatchOption, slice_index_or, unsigned_abs};
+ghost use Rattle.rules.specs.Rule.{at, kept, open_sum};
 ghost use Rattle.table.specs.Layout.{rules_of};
-ghost use Rattle.table.specs.Meaning.{mark, reached, Meets, price};
-ghost use Rattle.board.specs.Board.{bare, choice, Named, Read, TakesAsSaid, judged, broken_rules};
+ghost use Rattle.table.specs.Meaning.{mark, chosen, Meets, price};
+ghost use Rattle.board.specs.Board.{is_one, bare, choice, Named, Read, TakesAsSaid, judged, breaks, broken_rules};
 
 pub mod literal;
 pub mod words;
@@ -17,13 +17,13 @@ pub mod words;
 use literal::literal;
 use rules::Mark;
 use table::PARTS;
-use table::checked::Checked;
+use table::checked::{Checked, Row};
 use words::{Judgement, Literal, Misread, Trouble};
 
 // The mark of each part: free where no literal has named it.
 #[derive(Clone, Copy)]
 pub struct Board {
-    pub marks: [Mark; 40],
+    pub marks: [Mark; PARTS],
 }
 
 impl Board {
@@ -40,15 +40,13 @@ impl Board {
     pub fn name(&mut self, word: &[u8], sheet: &Checked) -> Result<(), Trouble>
         ensures { Named sheet.now.words.now word.now self.old.marks result self.new.marks }
     {
-        let Some(Literal { part, taken }) = literal(word) else {
-            return Err(Trouble::NotALiteral);
-        };
+        let Literal { part, taken } = literal(word).ok_or(Trouble::NotALiteral)?;
         if part == 0 || sheet.parts() < part {
             return Err(Trouble::NoSuchPart);
         }
         match self.marks[part - 1] {
             Mark::Free => {
-                self.marks[part - 1] = if taken { Mark::One } else { Mark::Zero };
+                self.marks[part - 1] = Mark::from(taken);
                 Ok(())
             }
             _ => Err(Trouble::NamedTwice),
@@ -62,10 +60,9 @@ impl Board {
     {
         let mut board = Board::nothing();
         for (index, word) in words.iter().enumerate() {
-            match board.name(word.as_bytes(), sheet) {
-                Ok(()) => {}
-                Err(trouble) => return Err(Misread { index, trouble }),
-            }
+            board
+                .name(word.as_bytes(), sheet)
+                .map_err(|trouble| Misread { index, trouble })?;
         }
         Ok(board)
     }
@@ -74,32 +71,30 @@ impl Board {
     pub fn takes(&self, part: usize) -> bool
         ensures { result ≡ choice self.now.marks part }
     {
-        part < PARTS && matches!(self.marks[part], Mark::One)
+        part < PARTS && is_taken(self.marks[part])
     }
 
-    // What a term gives: its size where its literal is true on this board, else 0.
-    fn gives(&self, part: usize, coefficient: i32) -> u32
-        ensures value { result ≡ kept coefficient (mark (choice self.now.marks part)) }
-        ensures bound { result ≤ unsigned_abs coefficient }
+    // What these coefficients give together, each where its literal is true on this board.
+    fn sum(&self, coefficients: &[i32]) -> u32
+        requires long { length coefficients.now ≡ 40 }
+        requires small { (i : ℕ) → i < 40 → unsigned_abs (slice_index_or coefficients.now i (pos 0)) ≤ 1000000 }
+        ensures { result ≡ open_sum 40 (at coefficients.now) (chosen (choice self.now.marks)) }
     {
-        let mark = if self.takes(part) {
-            Mark::One
-        } else {
-            Mark::Zero
-        };
-        mark.leaves(coefficient)
+        self.marks
+            .iter()
+            .zip(coefficients)
+            .map(|(mark, coefficient)| gives(*mark, *coefficient))
+            .sum()
     }
 
-    // The sum that the rule reaches.
-    fn sum(&self, sheet: &Checked, rule: usize) -> u32
-        requires { rule < 64 }
-        ensures { result ≡ reached sheet.now.words.now rule (choice self.now.marks) }
+    // How the rule of the row fares.
+    pub fn fares(&self, row: &Row) -> Judgement
+        ensures { result ≡ judged row.now.sheet.words.now row.now.number (choice self.now.marks) }
     {
-        let mut sum = 0;
-        for part in 0..PARTS {
-            sum += self.gives(part, sheet.coefficient(rule, part));
+        Judgement {
+            reached: self.sum(row.coefficients()),
+            needed: row.degree(),
         }
-        sum
     }
 
     // How a rule of the sheet, counted from 0, fares: None where the sheet has no such rule.
@@ -109,23 +104,23 @@ impl Board {
         if sheet.rules() <= rule {
             return None;
         }
-        Some(Judgement {
-            reached: self.sum(sheet, rule),
-            needed: sheet.degree(rule),
-        })
+        Some(self.fares(&sheet.row(rule)))
+    }
+
+    // Whether the board breaks the rule of the row.
+    fn breaks(&self, row: &Row) -> bool
+        ensures { result ≡ breaks row.now.sheet.words.now (choice self.now.marks) row.now.number }
+    {
+        !self.fares(row).is_met()
     }
 
     // How many rules of the sheet the board breaks.
     pub fn broken(&self, sheet: &Checked) -> usize
         ensures { result ≡ broken_rules sheet.now.words.now (choice self.now.marks) }
     {
-        let mut broken = 0;
-        for rule in 0..sheet.rules() {
-            if self.sum(sheet, rule) < sheet.degree(rule) {
-                broken += 1;
-            }
-        }
-        broken
+        (0..sheet.rules())
+            .filter(|rule| self.breaks(&sheet.row(*rule)))
+            .count()
     }
 
     // Whether the board meets every rule of the sheet.
@@ -139,10 +134,19 @@ impl Board {
     pub fn price(&self, sheet: &Checked) -> i64
         ensures { result ≡ price sheet.now.words.now (choice self.now.marks) }
     {
-        let mut weights: u32 = 0;
-        for part in 0..PARTS {
-            weights += self.gives(part, sheet.weight(part));
-        }
-        i64::from(sheet.base()) + i64::from(weights)
+        i64::from(sheet.base()) + i64::from(self.sum(sheet.weights()))
     }
+}
+
+fn is_taken(mark: Mark) -> bool
+    ensures { result ≡ is_one mark }
+{
+    matches!(mark, Mark::One)
+}
+
+// What a term gives on a part with this mark: its size where its literal is true, else 0.
+fn gives(known: Mark, coefficient: i32) -> u32
+    ensures { result ≡ kept coefficient (mark (is_one known)) }
+{
+    Mark::from(is_taken(known)).leaves(coefficient)
 }

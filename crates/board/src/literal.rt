@@ -16,10 +16,10 @@ pub fn numeral(bytes: &[u8]) -> Option<usize>
     }
     let mut number: usize = 0;
     for byte in bytes {
-        if *byte < b'0' || b'9' < *byte {
+        if !byte.is_ascii_digit() {
             return None;
         }
-        number = (number * 10 + (*byte - b'0') as usize).min(MOST);
+        number = (number * 10 + usize::from(*byte - b'0')).min(MOST);
     }
     Some(number)
 }
@@ -39,13 +39,13 @@ pub fn literal(word: &[u8]) -> Option<Literal>
     ensures { Says word.now result }
 {
     match word {
-        [b'-', rest @ ..] => match part_number(rest) {
-            Some(part) => Some(Literal { part, taken: false }),
-            None => None,
-        },
-        _ => match part_number(word) {
-            Some(part) => Some(Literal { part, taken: true }),
-            None => None,
-        },
+        [b'-', rest @ ..] => Some(Literal {
+            part: part_number(rest)?,
+            taken: false,
+        }),
+        _ => Some(Literal {
+            part: part_number(word)?,
+            taken: true,
+        }),
     }
 }

@@ -1,7 +1,8 @@
-// A literal as it is written, and what can be wrong with one.
+// A literal as it is written, what can be wrong with one, and how a rule fares.
 ghost use Rattle.std.specs.Prelude.{◌≡◌, Some, nat_le};
-ghost use Rattle.board.specs.Trouble.{trouble_words};
+ghost use Rattle.board.specs.Trouble.{trouble_words, misread_words};
 
+use std::error::Error;
 use std::fmt;
 
 // A part by its number, and whether it is taken.
@@ -44,24 +45,29 @@ impl Judgement {
     }
 }
 
-impl Trouble {
-    // What is wrong, in words.
-    pub fn words(self) -> &'static str
-        ensures { result.now ≡ trouble_words self }
-    {
-        match self {
-            Trouble::NotALiteral => "is not a literal",
-            Trouble::NoSuchPart => "names a part that the sheet does not declare",
-            Trouble::NamedTwice => "names a part that an earlier word has named",
-        }
-    }
-}
-
 impl fmt::Display for Trouble {
     ghost output = { λ t. Some (trouble_words t) };
 
     fn fmt<W: fmt::Write>(&self, f: &mut fmt::Formatter<W>) -> fmt::Result {
-        let words = self.words();
-        write!(f, "{words}")
+        match self {
+            Trouble::NotALiteral => write!(f, "is not a literal"),
+            Trouble::NoSuchPart => write!(f, "names a part that the sheet does not declare"),
+            Trouble::NamedTwice => write!(f, "names a part that an earlier word has named"),
+        }
     }
 }
+
+// A word by its number, from 1, and what is wrong with it.
+impl fmt::Display for Misread {
+    ghost output = { λ m. Some (misread_words m) };
+
+    fn fmt<W: fmt::Write>(&self, f: &mut fmt::Formatter<W>) -> fmt::Result {
+        let Misread { index, trouble } = *self;
+        let number = index.saturating_add(1);
+        write!(f, "word {number} {trouble}")
+    }
+}
+
+impl Error for Trouble {}
+
+impl Error for Misread {}

@@ -1,33 +1,28 @@
--- One more byte of a text: it ends a line, or it does not.
-use Rattle.std.proofs.Common.{◌≡◌, ℕ, ◌+◌, ◌-◌, ◌<◌, ◌≤◌, eqb, List, length, get_or, ap, ◌∙◌, inl, inr, eq-or-lt_of_le, arith}
-use Rattle.std.proofs.lemmas.List.Sums.{count_by_more_yes, count_by_more_no}
-use Rattle.std.proofs.lemmas.Bool.{eq-eqb, ne_eqb}
-use Rattle.spot.specs.Spot.{line_ends, Begins, Unbroken}
+-- A line that a place of a text is in: what is before the place, and what is after it.
+use Rattle.std.proofs.Common.{◌≡◌, ℕ, ◌+◌, ◌-◌, ◌<◌, ◌≤◌, List, length, get_or, take, drop, ap, sym, ◌∙◌, inl, inr, zero, suc, ◌⊎◌, length-drop, arith}
+use Rattle.std.proofs.lemmas.List.{get_or-take, get_or-drop}
+use Rattle.spot.specs.Spot.{Begins, Ends, Unbroken}
 
--- how far a count of lines has come at an index: the number of its line, and where that begins
-pub record Counted (text : List ℕ) (at line start : ℕ) : Type 0 where
-  pub number : line ≡ line_ends text at + 1
-  pub small : line ≤ at + 1
-  pub begins : Begins text start
-  pub before : start ≤ at
-  pub unbroken : Unbroken text start at
+order : (m n : ℕ) → (m < n) ⊎ (n ≤ m)
+order m zero = inr (omega arith)
+order zero (suc n) = inl (omega arith)
+order (suc m) (suc n) = elim (order m n) [ inl h ↦ inl (omega arith) | inr h ↦ inr (omega arith) ]
 
-module _ (text : List ℕ) (at line start : ℕ) (l : at < length text) (so_far : Counted text at line start) where
-  pub counted_end : get_or text at 0 ≡ 10 → Counted text (at + 1) (line + 1) (at + 1)
-  counted_end e = record {
-    number = omega (arith, so_far.number, count_by_more_yes (λ b. eqb b 10) text at 0 l (eq-eqb _ 10 e));
-    small = omega (arith, so_far.small);
-    begins = λ p. let same : at + 1 - 1 ≡ at = omega arith in ap (λ (i : ℕ). get_or text i 0) same ∙ e;
-    before = omega arith;
-    unbroken = λ i low high q. absurd (omega arith);
-  }
+module _ (text : List ℕ) (place : ℕ) (l : place ≤ length text) where
+  before : (i : ℕ) → i < place → get_or (take place text) i 0 ≡ get_or text i 0
+  before i h = get_or-take place text i 0 h
 
-  pub counted_more : (get_or text at 0 ≡ 10 → ⊥) → Counted text (at + 1) line start
-  counted_more ne = record {
-    number = omega (arith, so_far.number, count_by_more_no (λ b. eqb b 10) text at 0 l (ne_eqb _ 10 ne));
-    small = omega (arith, so_far.small);
-    begins = so_far.begins;
-    before = omega (arith, so_far.before);
-    unbroken = λ i low high q. let upto : i ≤ at = omega arith in elim (eq-or-lt_of_le upto)
-        [ inl e ↦ ne (rw (← e) q) | inr below ↦ so_far.unbroken i low below q ];
-  }
+  after : (i : ℕ) → place ≤ i → get_or (drop place text) (i - place) 0 ≡ get_or text i 0
+  after i h = let e : place + (i - place) ≡ i = omega arith in get_or-drop place text (i - place) 0 ∙ ap (λ j. get_or text j 0) e
+
+  pub begins_whole : (start : ℕ) → start ≤ place → Begins (take place text) start → Begins text start
+  begins_whole start h b = λ p. sym (before (start - 1) (omega arith)) ∙ b p
+
+  pub ends_whole : (left : ℕ) → Ends (drop place text) left → Ends text (place + left)
+  ends_whole left e = λ p. sym (get_or-drop place text left 0) ∙ e (omega (arith, length-drop place text))
+
+  pub unbroken_whole : (start left : ℕ) → Unbroken (take place text) start place → Unbroken (drop place text) 0 left → Unbroken text start (place + left)
+  unbroken_whole start left b a = λ i low high q. elim (order i place) [
+    | inl h ↦ b i low h (before i h ∙ q)
+    | inr h ↦ a (i - place) (omega arith) (omega arith) (after i h ∙ q)
+  ]

@@ -1,8 +1,8 @@
 // Where a byte of a text stands: its line, and the part of the line that is shown around it.
 #![tactic(auto)]
 
-ghost use Rattle.std.specs.Prelude.{◌≡◌, ◌+◌, min, length};
-ghost use Rattle.spot.specs.Spot.{Line, Shows};
+ghost use Rattle.std.specs.Prelude.{◌≡◌, ◌+◌, ◌≤◌, min, length};
+ghost use Rattle.spot.specs.Spot.{Begins, Ends, Line, Shows, Unbroken};
 
 pub mod view;
 
@@ -20,23 +20,12 @@ impl Spot {
         ensures line { Line text.now result }
     {
         let place = place.min(text.len());
-        let mut line = 1;
-        let mut start = 0;
-        for at in 0..place {
-            if text[at] == b'\n' {
-                line += 1;
-                start = at + 1;
-            }
-        }
-        let mut end = place;
-        while end < text.len() && text[end] != b'\n' {
-            end += 1;
-        }
+        let before = &text[..place];
         Spot {
             place,
-            line,
-            start,
-            end,
+            line: before.iter().filter(|byte| **byte == b'\n').count() + 1,
+            start: line_start(before),
+            end: place + line_left(&text[place..]),
         }
     }
 
@@ -61,4 +50,28 @@ impl Spot {
         let to = self.end.min(from + WIDTH);
         Window { from, to }
     }
+}
+
+// Where the last line of these bytes begins.
+fn line_start(before: &[u8]) -> usize
+    ensures within { result ≤ length before.now }
+    ensures begins { Begins before.now result }
+    ensures unbroken { Unbroken before.now result (length before.now) }
+{
+    match before.iter().rposition(|byte| *byte == b'\n') {
+        Some(at) => at + 1,
+        None => 0,
+    }
+}
+
+// How many bytes there are before the first line end, or in all.
+fn line_left(after: &[u8]) -> usize
+    ensures within { result ≤ length after.now }
+    ensures ends { Ends after.now result }
+    ensures unbroken { Unbroken after.now 0 result }
+{
+    after
+        .iter()
+        .position(|byte| *byte == b'\n')
+        .unwrap_or(after.len())
 }

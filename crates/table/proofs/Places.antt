@@ -1,5 +1,6 @@
 -- Which place each word has, and what a sound table holds there.
-use Rattle.std.proofs.Common.{◌≡◌, ℕ, ◌+◌, ◌*◌, ◌<◌, ◌≤◌, Bool, true, false, ◌&&◌, List, ℤ, pos, negsuc, nat_abs, refl, subst, arith}
+use Rattle.std.proofs.Common.{◌≡◌, ℕ, ◌+◌, ◌-◌, ◌*◌, ◌<◌, ◌≤◌, Bool, true, false, ◌&&◌, List, ℤ, pos, negsuc, nat_abs, get_or, take, drop, refl, ◌∙◌, subst, arith}
+use Rattle.std.proofs.lemmas.List.{get_or-take, get_or-drop}
 use Rattle.std.proofs.lemmas.Int.{ints}
 use Rattle.std.proofs.lemmas.Bool.Decides.{nat_tests}
 use Rattle.table.specs.declared.place.Place.{Place}
@@ -50,6 +51,10 @@ degree_within false v h = omega (arith, ints)
 coefficient_within : (b : Bool) (v : ℤ) → Within (used b (range (negsuc 999999) (pos 1000000))) v → nat_abs v ≤ 1000000
 coefficient_within true v h = omega (arith, ints)
 coefficient_within false v h = omega (arith, ints)
+
+-- the words from one on, up to another
+pub between : (T : List ℤ) (from to i : ℕ) → i < to - from → get_or (take (to - from) (drop from T)) i (pos 0) ≡ word T (from + i)
+between T from to i l = get_or-take (to - from) (drop from T) i (pos 0) l ∙ get_or-drop from T i (pos 0)
 
 -- a word of a table in which each is fine, by its place
 module _ (T : List ℤ) (fine : (w : ℕ) → w < 2668 → Fine T w) where

@@ -5,8 +5,8 @@
 // says which choices of parts meet the sheet, and what a choice costs.
 #![tactic(auto)]
 
-ghost use Rattle.std.specs.Prelude.{◌≡◌, ℕ, ◌<◌, length, Decides};
-ghost use Rattle.table.specs.Layout.{place_of, limits_of, Fine, Verdict};
+ghost use Rattle.std.specs.Prelude.{◌≡◌, ◌<◌, MatchBool};
+ghost use Rattle.table.specs.Layout.{limits_of, Fine, Verdict};
 
 pub mod checked;
 pub mod place;
@@ -38,75 +38,46 @@ pub const MOST_WEIGHT: i32 = 100_000;
 
 pub const MOST_BASE: i32 = 4_000_000;
 
-// What the word of this index holds.
-pub fn place_of(word: usize) -> Place
-    ensures { result ≡ place_of word }
-{
-    match word {
-        0 => Place::Parts,
-        1 => Place::Rules,
-        2 => Place::Base,
-        3 => Place::Priced,
-        4..=43 => Place::Weight(word - WEIGHTS),
-        _ => {
-            let row = (word - RULES) / ROW;
-            match (word - RULES) % ROW {
-                0 => Place::Degree(row),
-                column => Place::Coefficient(row, column - 1),
-            }
-        }
-    }
-}
-
 // The limits of a word with this place. They are 0 and 0 where the table has no such part, rule or price line.
-fn limits(table: &[i32], place: Place) -> Limits
-    requires { length table.now ≡ 2668 }
+fn limits(table: &[i32; WORDS], place: Place) -> Limits
     ensures { result ≡ limits_of table.now place }
 {
     let parts = table[0].unsigned_abs() as usize;
     let rules = table[1].unsigned_abs() as usize;
     let priced = table[3].unsigned_abs() != 0;
-    let (used, least, most) = match place {
-        Place::Parts => (true, 1, 40),
-        Place::Rules => (true, 0, 64),
-        Place::Base => (priced, -MOST_BASE, 0),
-        Place::Priced => (true, 0, 1),
-        Place::Weight(part) => (priced && part < parts, -MOST_WEIGHT, MOST_WEIGHT),
-        Place::Degree(rule) => (rule < rules, 0, MOST_DEGREE),
-        Place::Coefficient(rule, part) => (
-            rule < rules && part < parts,
+    let (least, most) = match place {
+        Place::Parts => (1, PARTS as i32),
+        Place::Rules => (0, ROWS as i32),
+        Place::Base if priced => (-MOST_BASE, 0),
+        Place::Priced => (0, 1),
+        Place::Weight(part) if priced && part < parts => (-MOST_WEIGHT, MOST_WEIGHT),
+        Place::Degree(rule) if rule < rules => (0, MOST_DEGREE),
+        Place::Coefficient(rule, part) if rule < rules && part < parts => (
             -MOST_COEFFICIENT,
             MOST_COEFFICIENT,
         ),
+        _ => (0, 0),
     };
-    if used {
-        Limits { least, most }
-    } else {
-        Limits { least: 0, most: 0 }
-    }
+    Limits { least, most }
 }
 
-// Whether this word of the table is within its limits.
-fn is_fine(table: &[i32], word: usize) -> bool
-    requires whole { length table.now ≡ 2668 }
-    requires within { word < 2668 }
-    ensures { Decides result (Fine table.now word) }
+// Whether this word of the table is not within its limits.
+fn is_bad(table: &[i32; WORDS], word: usize) -> bool
+    requires { word < 2668 }
+    ensures { MatchBool result (Fine table.now word → ⊥) (Fine table.now word) }
 {
-    let Limits { least, most } = limits(table, place_of(word));
-    least <= table[word] && table[word] <= most
+    !limits(table, Place::from(word)).holds(table[word])
 }
 
 // Refuses a table of another length, and else the first word that is not within its limits.
 pub fn check(table: &[i32]) -> Result<(), RunFault>
     ensures { Verdict table.now result }
 {
-    if table.len() != WORDS {
+    let Ok(table) = <&[i32; WORDS]>::try_from(table) else {
         return Err(RunFault::TableLength);
+    };
+    match (0..WORDS).find(|word| is_bad(table, *word)) {
+        Some(word) => Err(RunFault::Layout(word)),
+        None => Ok(()),
     }
-    for word in 0..WORDS {
-        if !is_fine(table, word) {
-            return Err(RunFault::Layout(word));
-        }
-    }
-    Ok(())
 }

@@ -1,33 +1,12 @@
-use Rattle.std.proofs.Common.{◌≡◌, ap, arith, w32, SFits, rules}
-use Rattle.rules.proofs.Sum.{total_more}
-use Rattle.rules.proofs.Rule.{kept_le_size}
-use Rattle.rules.specs.Sum.{total}
-use Rattle.rules.specs.Rule.{kept}
-use Rattle.table.specs.Layout.{weight}
-use Rattle.table.specs.Meaning.{mark}
-use Rattle.std.proofs.lemmas.Int.{ints, to_z-of_z}
+use Rattle.std.proofs.Common.{arith, w32, FitsSigned, rules}
+use Rattle.std.proofs.lemmas.Int.{ints}
 use Rattle.board.specs.Board.{choice}
+use Rattle.table.specs.Layout.{weight}
+use Rattle.board.proofs.Sums.{open_same}
 use Rattle.board.proofs.Board.price.Goals as goal
-
-pub loop-part-init : goal.loop-part-init
-unfolding total
-loop-part-init c = search rules
-
-pub loop-part-preserved : goal.loop-part-preserved
-loop-part-preserved c =
-    let T = c.args.sheet.now.words.now in
-    let x = choice c.args.self.now.marks in
-    let part = c.loop-part.part in
-    let fit : SFits w32 c.weight.result = search rules in
-    let gives : c.gives-weights.result ≡ kept c.weight.result (mark (x part)) = simp to_z-of_z at c.gives-weights.ensures.value in
-    let same : kept c.weight.result (mark (x part)) ≡ kept (weight T part) (mark (x part)) = ap (λ a. kept a (mark (x part))) c.weight.ensures.value in
-    let most = kept_le_size c.weight.result (mark (x part)) in
-    let more = total_more (λ i. kept (weight T i) (mark (x i))) part in
-    (omega arith, omega arith)
 
 pub returns : goal.returns
 returns c =
-    let fit : SFits w32 c.base.result = search rules in
-    let all : c.loop-part.part ≡ 40 = omega arith in
-    let sum = rw all at c.loop-part.invariant.0 in
+    let fit : FitsSigned w32 c.base.result = search rules in
+    let sum = open_same c.weights.result.now (weight c.args.sheet.now.words.now) (choice c.args.self.now.marks) c.weights.ensures.each in
     omega (arith, ints)

@@ -12,6 +12,7 @@ loop-byte-preserved c =
     let bytes = c.args.bytes.now in
     let i = c.loop-byte.byte-index in
     let lt : i < length bytes = omega arith in
+    let digit = rw c.if-not-is_ascii_digit.false at c.is_ascii_digit.ensures.cases in
     let low : 48 ≤ get_or bytes i 0 = omega arith in
     let high : get_or bytes i 0 ≤ 57 = omega arith in
     let d = of_digit _ low high in
