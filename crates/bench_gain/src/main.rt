@@ -10,7 +10,7 @@ mod wide;
 use gains::best::best_count_rule;
 use gains::kinds::Round;
 use std::io;
-use std::time::{Duration, Instant};
+use timing::timed;
 use wide::Wide;
 
 // How often each core is tried.
@@ -25,9 +25,11 @@ fn main(rt: HostRuntime) -> anyhow::Result<()> {
 
 // Tries a core again and again, and prints what is kept and how long a try takes.
 fn measure(rt: &HostRuntime, literals: usize, wide: &Wide) -> io::Result<()> {
-    let begin = Instant::now(rt)?;
-    let shortest = shortest_try(rt, wide)?.as_nanos();
-    let average = (begin.elapsed(rt)? / TRIES).as_nanos();
+    let times = timed(rt, TRIES, || {
+        let _ = kept(wide);
+    })?;
+    let shortest = times.shortest.as_nanos();
+    let average = times.average.as_nanos();
     let Round { weight, count } = kept(wide);
     println!(rt; "{literals} literals: count {count}, smallest weight {weight}")?;
     eprintln!(rt; "{literals} literals: shortest {shortest} ns, on average {average} ns")
@@ -45,15 +47,4 @@ fn kept(wide: &Wide) -> Round {
             count: 0,
         },
     }
-}
-
-// The shortest time of all tries.
-fn shortest_try(rt: &HostRuntime, wide: &Wide) -> io::Result<Duration> {
-    let mut shortest = Duration::from_secs(1);
-    for _ in 0..TRIES {
-        let start = Instant::now(rt)?;
-        let _ = kept(wide);
-        shortest = shortest.min(start.elapsed(rt)?);
-    }
-    Ok(shortest)
 }

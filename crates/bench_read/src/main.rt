@@ -8,7 +8,7 @@ mod shape;
 
 use shape::Shape;
 use std::io;
-use std::time::{Duration, Instant};
+use timing::timed;
 
 // How often each text is read.
 const READS: u32 = 500;
@@ -26,9 +26,11 @@ fn main(rt: HostRuntime) -> anyhow::Result<()> {
 // Reads a text again and again, and prints what it comes to and how long a read takes.
 fn measure(rt: &HostRuntime, name: &str, text: &[u8]) -> io::Result<()> {
     let mut table = [0; sheet::WORDS];
-    let begin = Instant::now(rt)?;
-    let shortest = shortest_read(rt, text, &mut table)?.as_nanos();
-    let average = (begin.elapsed(rt)? / READS).as_nanos();
+    let times = timed(rt, READS, || {
+        let _ = sheet::read(text, &mut table);
+    })?;
+    let shortest = times.shortest.as_nanos();
+    let average = times.average.as_nanos();
     let bytes = text.len();
     let rows = table[1];
     let sum = checksum(&table);
@@ -36,22 +38,9 @@ fn measure(rt: &HostRuntime, name: &str, text: &[u8]) -> io::Result<()> {
     eprintln!(rt; "{name}, {bytes} bytes: shortest {shortest} ns, on average {average} ns")
 }
 
-// The shortest time of all reads of a text.
-fn shortest_read(rt: &HostRuntime, text: &[u8], table: &mut [i32]) -> io::Result<Duration> {
-    let mut shortest = Duration::from_secs(1);
-    for _ in 0..READS {
-        let start = Instant::now(rt)?;
-        let _ = sheet::read(text, table);
-        shortest = shortest.min(start.elapsed(rt)?);
-    }
-    Ok(shortest)
-}
-
 // A number that depends on the size of every word.
 fn checksum(table: &[i32]) -> u32 {
-    let mut sum: u32 = 0;
-    for word in table {
-        sum = sum.wrapping_mul(31).wrapping_add(word.unsigned_abs());
-    }
-    sum
+    table
+        .iter()
+        .fold(0u32, |sum, word| sum.wrapping_mul(31).wrapping_add(word.unsigned_abs()))
 }

@@ -1,5 +1,5 @@
 -- The literals of a core weigh something, and the rule that is kept of it suits the price.
-use Rattle.std.proofs.Common.{◌≡◌, ℕ, zero, suc, ◌+◌, ◌<◌, ◌≤◌, Bool, true, false, cond, not, ℤ, pos, negsuc, sym, refl, ap, ◌∙◌, subst, arith}
+use Rattle.std.proofs.Common.{◌≡◌, ℕ, zero, suc, ◌+◌, ◌<◌, ◌≤◌, Bool, true, false, cond, not, ℤ, pos, negsuc, Some, None, Ok, Err, sym, refl, ap, ◌∙◌, subst, arith}
 use Rattle.rules.specs.Rule.{at, size}
 use Rattle.rules.specs.Terms.{only, coefficient}
 use Rattle.rules.specs.declared.term.Rule.{Rule}
@@ -11,7 +11,6 @@ use Rattle.counting.specs.Rounds.{literal_weight}
 use Rattle.counting.proofs.Counting.{clash}
 use Rattle.counting.proofs.Rounds.{heavy_weighs, heavy_of_core}
 use Rattle.gains.specs.declared.kinds.CountRule.{CountRule}
-use Rattle.gains.specs.declared.kinds.Best.TheVariants.{CannotBeMet, Nothing, Kept}
 use Rattle.gains.specs.Gains.{weights, KeptIs}
 use Rattle.reform_laws.specs.Reform.{SuitsAt}
 use Rattle.reform.specs.declared.kinds.Price.{Price}
@@ -36,9 +35,9 @@ floor_cores r ls k price c h i l n =
     (ap (is_false (coefficient r i)) (sym (h i l))) (c.is.row i l) n
 
 pub floor_gains : FloorCoresGain
-floor_gains r ls core price CannotBeMet c h b f = absurd (omega (arith, c.can))
-floor_gains r ls core price Nothing c h b f = absurd (omega (arith, c.some b))
-floor_gains r ls core price (Kept k) c h b f = (k, refl, f.gains (floor_cores r ls core price c h))
+floor_gains r ls core price (Err e) c h b f = absurd (omega (arith, c.can))
+floor_gains r ls core price (Ok None) c h b f = absurd (omega (arith, c.some b))
+floor_gains r ls core price (Ok (Some k)) c h b f = (k, refl, f.gains (floor_cores r ls core price c h))
 
 -- ---- a term of the count rule
 abbrev term : Bool → ℤ → ℤ

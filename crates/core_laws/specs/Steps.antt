@@ -1,15 +1,14 @@
 -- How the steps from a rule to the reformulated price fit together.
-use Rattle.std.specs.Prelude.{◌≡◌, ℕ, zero, suc, ◌+◌, ◌*◌, ◌^◌, ◌<◌, ◌≤◌, List, ℤ, pos, negsuc, Some}
+use Rattle.std.specs.Prelude.{◌≡◌, ℕ, zero, suc, ◌+◌, ◌*◌, ◌^◌, ◌<◌, ◌≤◌, List, ℤ, pos, negsuc, Some, Option, Ok, Result}
 use Rattle.rules.specs.Rule.{at, Met, Broken}
 use Rattle.rules.specs.Terms.{only, coefficient}
 use Rattle.rules.specs.declared.Mark.{Mark}
 use Rattle.rules.specs.declared.Mark.TheVariants.{Free, Zero, One}
 use Rattle.rules.specs.declared.term.Literal.{Literal}
 use Rattle.rules.specs.declared.term.Rule.{Rule}
+use Rattle.cores.specs.declared.core_of.CannotBeMet.{CannotBeMet}
 use Rattle.cores.specs.Cores.{CoreIs}
 use Rattle.gains.specs.declared.kinds.CountRule.{CountRule}
-use Rattle.gains.specs.declared.kinds.Best.{Best}
-use Rattle.gains.specs.declared.kinds.Best.TheVariants.{Kept}
 use Rattle.gains.specs.Gains.{gain, round_of, AllWeigh, KeptIs, BestOf}
 use Rattle.reform_laws.specs.Reform.{rules_needed, MeetsNew}
 use Rattle.reform.specs.declared.kinds.Price.{Price}
@@ -33,8 +32,8 @@ FloorCoresWeigh = (r : Rule) (ls : List Literal) (k : Rule) (price : ℕ → ℤ
 
 -- Where moreover these literals break the rule, a core that can be met has a count rule that gains.
 abbrev pub FloorCoresGain : Type 0
-FloorCoresGain = (r : Rule) (ls : List Literal) (core : Rule) (price : ℕ → ℤ) (best : Best) → CoreIs r ls core → AssumesWeighted price ls
-    → Broken 80 (coefficient r) r.degree (only ls) → BestOf core price best → (k : CountRule) × (best ≡ Kept k) × (0 < gain (round_of k))
+FloorCoresGain = (r : Rule) (ls : List Literal) (core : Rule) (price : ℕ → ℤ) (best : Result (Option CountRule) CannotBeMet) → CoreIs r ls core → AssumesWeighted price ls
+    → Broken 80 (coefficient r) r.degree (only ls) → BestOf core price best → (k : CountRule) × (best ≡ Ok (Some k)) × (0 < gain (round_of k))
 
 -- the core and the price speak of the first v variables only
 pub record Over (v : ℕ) (core : Rule) (price : ℕ → ℤ) : Type 0 where

@@ -1,73 +1,88 @@
 // A line of a list of cores.
-ghost use Rattle.std.specs.Prelude.{◌≡◌, ◌+◌, ◌≤◌, MatchOption, slice_set};
+ghost use Rattle.std.specs.Prelude.{Some};
+ghost use Rattle.core_text.specs.Words.{line_error_words};
 
-use rules::term::{Rule, WIDTH};
+use arrayvec::ArrayVec;
+use rules::term::Rule;
+use std::error::Error;
+use std::str::FromStr;
+use std::{array, fmt};
 
-// Numbers at the first places of a row; the other places are 0.
-#[derive(Clone, Copy)]
+// What is wrong with a line.
+#[derive(Clone, Copy, PartialEq, Eq, Debug)]
+pub enum LineError {
+    // a field is missing
+    Short,
+    // a number is none, or beyond its limits
+    Number,
+    // a row has more than eighty numbers
+    Long,
+}
+
+impl fmt::Display for LineError {
+    ghost output = { λ e. Some (line_error_words e) };
+
+    fn fmt<W: fmt::Write>(&self, f: &mut fmt::Formatter<W>) -> fmt::Result {
+        match self {
+            LineError::Short => write!(f, "a field is missing"),
+            LineError::Number => write!(f, "a number is none, or beyond its limits"),
+            LineError::Long => write!(f, "a row has more than eighty numbers"),
+        }
+    }
+}
+
+impl Error for LineError {}
+
+// The first numbers of a row; at its other places there is 0.
+#[derive(Drop)]
 pub struct Row {
-    pub numbers: [i32; 80],
-    // how many there are
-    pub length: usize,
+    pub numbers: ArrayVec<i32, 80>,
 }
 
 impl Row {
-    // The row that a list writes: numbers with a comma between each two. None where one of them is no number, or where there
-    // are more than the row has places.
-    pub fn of(list: &str) -> Option<Row> {
-        let mut row = Row {
-            numbers: [0; WIDTH],
-            length: 0,
-        };
-        for number in list.split(',') {
-            row = row.with(number.parse::<i32>().ok()?)?;
-        }
-        Some(row)
+    // The whole row.
+    pub fn places(&self) -> [i32; 80] {
+        array::from_fn(|i| self.numbers.get(i).copied().unwrap_or(0))
     }
+}
 
-    // One number more, where there is a place for it.
-    fn with(self, number: i32) -> Option<Row>
-        ensures { MatchOption result (80 ≤ self.length) (λ q. (q.numbers ≡ slice_set self.numbers self.length number) × (q.length ≡ self.length + 1)) }
-    {
-        if WIDTH <= self.length {
-            return None;
+// Numbers with a comma between each two.
+impl FromStr for Row {
+    type Err = LineError;
+
+    fn from_str(list: &str) -> Result<Row, LineError> {
+        let mut numbers = ArrayVec::new();
+        for number in list.split(',') {
+            let number = number.parse::<i32>().map_err(|_| LineError::Number)?;
+            numbers.try_push(number).map_err(|_| LineError::Long)?;
         }
-        let mut numbers = self.numbers;
-        numbers[self.length] = number;
-        Some(Row {
-            numbers,
-            length: self.length + 1,
-        })
+        Ok(Row { numbers })
     }
 }
 
 // A rule with the weights of its literals, and what the line says after them.
-#[derive(Clone, Copy)]
+#[derive(Drop)]
 pub struct Line<'a> {
     pub rule: Rule,
     pub weights: Row,
     pub rest: &'a str,
 }
 
-impl<'a> Line<'a> {
-    // What a line writes: coefficients, the degree and weights, a tabulator after each, and the rest.
-    pub fn of(line: &'a str) -> Option<Line<'a>> {
-        let (coefficients, after) = line.split_once('\t')?;
-        let (degree, after) = after.split_once('\t')?;
-        let (weights, rest) = after.split_once('\t')?;
-        let rule = Rule {
-            coefficients: Row::of(coefficients)?.numbers,
-            degree: degree.parse::<u32>().ok()?,
-        };
-        Some(Line {
-            rule,
-            weights: Row::of(weights)?,
+// Coefficients, the degree and weights, a tabulator after each, and the rest.
+impl<'a> TryFrom<&'a str> for Line<'a> {
+    type Error = LineError;
+
+    fn try_from(line: &'a str) -> Result<Line<'a>, LineError> {
+        let (coefficients, after) = line.split_once('\t').ok_or(LineError::Short)?;
+        let (degree, after) = after.split_once('\t').ok_or(LineError::Short)?;
+        let (weights, rest) = after.split_once('\t').ok_or(LineError::Short)?;
+        Ok(Line {
+            rule: Rule {
+                coefficients: coefficients.parse::<Row>()?.places(),
+                degree: degree.parse::<u32>().map_err(|_| LineError::Number)?,
+            },
+            weights: weights.parse::<Row>()?,
             rest,
         })
     }
-}
-
-// Whether a line holds nothing but a remark.
-pub fn is_remark(line: &str) -> bool {
-    line.is_empty() || line.starts_with('#')
 }

@@ -1,1 +1,2 @@
 pub mod Reforming
+pub mod Words

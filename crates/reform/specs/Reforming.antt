@@ -1,5 +1,5 @@
 -- What reformulating gives.
-use Rattle.std.specs.Prelude.{◌≡◌, ℕ, ◌+◌, ◌-◌, ◌*◌, ◌^◌, ◌<◌, ◌≤◌, cond, ℤ, Some, None, Option, ◌==◌}
+use Rattle.std.specs.Prelude.{◌≡◌, ℕ, ◌+◌, ◌-◌, ◌*◌, ◌^◌, ◌<◌, ◌≤◌, cond, ℤ, Some, None, Option, Ok, Err, Result, ◌==◌}
 use Rattle.rules.specs.Rule.{at}
 use Rattle.rules.specs.Terms.{coefficient}
 use Rattle.rules.specs.declared.term.Rule.{Rule}
@@ -11,8 +11,8 @@ use Rattle.reform.specs.declared.kinds.Room.{Room}
 use Rattle.reform.specs.declared.kinds.NewRule.{NewRule}
 use Rattle.reform.specs.declared.kinds.NewRule.TheVariants.{AtLeast, AtMost, Order}
 use Rattle.reform.specs.declared.kinds.Reformulation.{Reformulation}
-use Rattle.reform.specs.declared.kinds.Outcome.{Outcome}
-use Rattle.reform.specs.declared.kinds.Outcome.TheVariants.{Unsuited, NoRoom, Done}
+use Rattle.reform.specs.declared.kinds.Unreformed.{Unreformed}
+use Rattle.reform.specs.declared.kinds.Unreformed.TheVariants.{Unsuited, NoRoom}
 
 -- what a count rule needs
 abbrev pub fresh_of : Rule → ℕ
@@ -54,10 +54,11 @@ pub record Reformulated (p : Price) (v : ℕ) (k : CountRule) (r : Reformulation
   pub weights : (i : ℕ) → i < 80 → at r.price.weights i ≡ reweighted p v (fresh_of k.rule) k i
   pub promise : Promise (coefficient k.rule) k.rule.degree k.weight v (fresh_of k.rule) p.constant (at p.weights) r.price.constant (at r.price.weights)
 
-abbrev pub OutcomeOf : Price → ℕ → CountRule → Room → Outcome → Type 0
-OutcomeOf p v k room Unsuited = Suited p v k → ⊥
-OutcomeOf p v k room NoRoom = Suited p v k × (HasRoom room v k.rule → ⊥)
-OutcomeOf p v k room (Done r) = Suited p v k × HasRoom room v k.rule × Reformulated p v k r
+-- what comes of a price and a count rule
+abbrev pub OutcomeOf : Price → ℕ → CountRule → Room → Result Reformulation Unreformed → Type 0
+OutcomeOf p v k room (Ok r) = Suited p v k × HasRoom room v k.rule × Reformulated p v k r
+OutcomeOf p v k room (Err Unsuited) = Suited p v k → ⊥
+OutcomeOf p v k room (Err NoRoom) = Suited p v k × (HasRoom room v k.rule → ⊥)
 
 -- ---- the rules
 -- the new rules in their order

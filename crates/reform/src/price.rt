@@ -3,14 +3,15 @@ ghost use Rattle.std.specs.Prelude.{◌≡◌, ℕ, ◌+◌, ◌*◌, ◌^◌, �
 ghost use Rattle.std.specs.Option.{SomeIff};
 ghost use Rattle.rules.specs.Rule.{at};
 ghost use Rattle.rules.specs.Terms.{coefficient};
-ghost use Rattle.reform_laws.specs.Reform.{fresh, less, SuitsAt};
+ghost use Rattle.reform_laws.specs.Reform.{less, SuitsAt};
 ghost use Rattle.reform.specs.Reforming.{needed, Limits, raised, reweighted, OutcomeOf};
 
-use super::kinds::{Outcome, Price, Reformulation, Room};
+use super::kinds::{Fresh, Price, Reformulation, Room, Unreformed};
 use cores::core_of::sum_of;
 use gains::kinds::CountRule;
 use gains::rounds::literal_weight;
 use rules::term::{Rule, WIDTH};
+use std::array;
 
 // The greatest weight that a variable can have.
 const HEAVIEST: u32 = 2_147_483_647;
@@ -41,73 +42,57 @@ fn suits_at(variables: usize, weight: u32, i: usize, literal: i32, price: i32) -
 fn each_suits(price: &Price, variables: usize, counted: &CountRule) -> bool
     ensures { Decides result ((i : ℕ) → i < 80 → SuitsAt variables counted.now.weight i (coefficient counted.now.rule i) (at price.now.weights i)) }
 {
-    for i in 0..WIDTH {
-        if !suits_at(
-            variables,
-            counted.weight,
-            i,
-            counted.rule.coefficients[i],
-            price.weights[i],
-        ) {
-            return false;
+    counted
+        .rule
+        .coefficients
+        .iter()
+        .zip(&price.weights)
+        .enumerate()
+        .all(|(i, (literal, price))| suits_at(variables, counted.weight, i, *literal, *price))
+}
+
+// A price, a count rule whose weight a variable can have, and its fresh variables.
+#[derive(Clone, Copy)]
+struct Shift<'a> {
+    price: &'a Price,
+    counted: &'a CountRule,
+    fresh: Fresh,
+    ghost small: { counted.now.weight < 2 ^ 31 },
+}
+
+impl<'a> Shift<'a> {
+    // A weight without the weight of the count rule.
+    fn less(&self, weight: i32) -> i32
+        ensures { result ≡ less self.now.counted.now.weight weight }
+    {
+        let by = self.counted.weight as i32;
+        if weight < 0 {
+            (weight + by).min(0)
+        } else {
+            (weight - by).max(0)
         }
     }
-    true
-}
 
-// Whether a variable is one of the fresh ones.
-pub fn is_fresh(variables: usize, number: usize, i: usize) -> bool
-    requires { variables + number ≤ 80 }
-    ensures { result ≡ fresh variables number i }
-{
-    variables <= i && i < variables + number
-}
-
-// A weight without a part of it.
-fn less(by: u32, weight: i32) -> i32
-    requires { by < 2 ^ 31 }
-    ensures { result ≡ less by weight }
-{
-    if weight < 0 {
-        (weight + by as i32).min(0)
-    } else {
-        (weight - by as i32).max(0)
+    // The new weight of a variable.
+    fn weight_after(&self, i: usize) -> i32
+        requires { i < 80 }
+        ensures { result ≡ reweighted self.now.price.now self.now.fresh.variables self.now.fresh.number self.now.counted.now i }
+    {
+        if self.fresh.has(i) {
+            self.counted.weight as i32
+        } else if self.counted.rule.coefficients[i].unsigned_abs() == 0 {
+            self.price.weights[i]
+        } else {
+            self.less(self.price.weights[i])
+        }
     }
-}
 
-// The new weight of a variable.
-fn weight_after(
-    price: &Price,
-    variables: usize,
-    number: usize,
-    counted: &CountRule,
-    i: usize,
-) -> i32
-    requires here { i < 80 }
-    requires room { variables + number ≤ 80 }
-    requires small { counted.now.weight < 2 ^ 31 }
-    ensures { result ≡ reweighted price.now variables number counted.now i }
-{
-    if is_fresh(variables, number, i) {
-        counted.weight as i32
-    } else if counted.rule.coefficients[i].unsigned_abs() == 0 {
-        price.weights[i]
-    } else {
-        less(counted.weight, price.weights[i])
+    // The new weights: each literal of the count rule loses its weight, and each fresh variable gets it.
+    fn weights_after(&self) -> [i32; 80]
+        ensures { (i : ℕ) → i < 80 → at result i ≡ reweighted self.now.price.now self.now.fresh.variables self.now.fresh.number self.now.counted.now i }
+    {
+        array::from_fn(|i| self.weight_after(i))
     }
-}
-
-// The new weights: each literal of the count rule loses its weight, and each fresh variable gets it.
-fn weights_after(price: &Price, variables: usize, number: usize, counted: &CountRule) -> [i32; 80]
-    requires room { variables + number ≤ 80 }
-    requires small { counted.now.weight < 2 ^ 31 }
-    ensures { (i : ℕ) → i < 80 → at result i ≡ reweighted price.now variables number counted.now i }
-{
-    let mut weights = [0; WIDTH];
-    for i in 0..WIDTH {
-        weights[i] = weight_after(price, variables, number, counted, i);
-    }
-    weights
 }
 
 // The constant once the count's share of the weights is moved to it; None where the rule passes a limit.
@@ -125,24 +110,36 @@ fn constant_after(price: &Price, counted: &CountRule) -> Option<u64>
 }
 
 // A price reformulated by a count rule, where there is room for its fresh variables and its rules.
-pub fn reformulate(price: &Price, variables: usize, counted: &CountRule, room: Room) -> Outcome
+pub fn reformulate(
+    price: &Price,
+    variables: usize,
+    counted: &CountRule,
+    room: Room,
+) -> Result<Reformulation, Unreformed>
     ensures { OutcomeOf price.now variables counted.now room result }
 {
     if !each_suits(price, variables, counted) {
-        return Outcome::Unsuited;
+        return Err(Unreformed::Unsuited);
     }
-    let Some(constant) = constant_after(price, counted) else {
-        return Outcome::Unsuited;
-    };
+    let constant = constant_after(price, counted).ok_or(Unreformed::Unsuited)?;
     let needed = needs(&counted.rule);
     if room.variables < needed.variables
         || room.rules < needed.rules
         || WIDTH < variables.saturating_add(needed.variables)
     {
-        return Outcome::NoRoom;
+        return Err(Unreformed::NoRoom);
     }
-    let weights = weights_after(price, variables, needed.variables, counted);
-    Outcome::Done(Reformulation {
+    let fresh = Fresh {
+        variables,
+        number: needed.variables,
+    };
+    let shift = Shift {
+        price,
+        counted,
+        fresh,
+    };
+    let weights = shift.weights_after();
+    Ok(Reformulation {
         price: Price { constant, weights },
         rule: counted.rule,
         variables,

@@ -4,9 +4,9 @@ ghost use Rattle.rules.specs.Rule.{at};
 ghost use Rattle.reform_laws.specs.Reform.{rules_needed, turned, order_row};
 ghost use Rattle.reform.specs.Reforming.{nth, new_row, new_degree, Among, NewRuleAt};
 
-use super::kinds::{NewRule, Reformulation};
-use super::price::is_fresh;
-use rules::term::{Rule, WIDTH};
+use super::kinds::{Fresh, NewRule, Reformulation};
+use rules::term::Rule;
+use std::array;
 
 // The new rule of this number, from 0.
 fn nth(k: usize) -> NewRule
@@ -23,13 +23,7 @@ fn nth(k: usize) -> NewRule
 fn turned(coefficient: i32) -> i32
     ensures { result ≡ turned coefficient }
 {
-    if coefficient < 0 {
-        1
-    } else if coefficient == 0 {
-        0
-    } else {
-        -1
-    }
+    -coefficient.signum()
 }
 
 // The coefficient of a variable in the rule that puts two neighbours among the fresh variables in order.
@@ -46,52 +40,55 @@ fn in_order(variables: usize, j: usize, i: usize) -> i32
     }
 }
 
-// The coefficient of a variable in a new rule.
-fn coefficient_in(reformulation: &Reformulation, kind: NewRule, i: usize) -> i32
-    requires here { i < 80 }
-    requires among { Among reformulation.now.fresh kind }
-    ensures { result ≡ new_row reformulation.now.rule reformulation.now.variables reformulation.now.fresh kind i }
-{
-    let fresh = is_fresh(reformulation.variables, reformulation.fresh, i);
-    match kind {
-        NewRule::AtLeast => if fresh {
-            -1
-        } else {
-            reformulation.rule.coefficients[i]
-        },
-        NewRule::AtMost => if fresh {
-            1
-        } else {
-            turned(reformulation.rule.coefficients[i])
-        },
-        NewRule::Order(j) => in_order(reformulation.variables, j, i),
-    }
-}
-
-// The coefficients of a new rule.
-fn row(reformulation: &Reformulation, kind: NewRule) -> [i32; 80]
-    requires { Among reformulation.now.fresh kind }
-    ensures { (i : ℕ) → i < 80 → at result i ≡ new_row reformulation.now.rule reformulation.now.variables reformulation.now.fresh kind i }
-{
-    let mut coefficients = [0; WIDTH];
-    for i in 0..WIDTH {
-        coefficients[i] = coefficient_in(reformulation, kind, i);
-    }
-    coefficients
-}
-
-// The degree of a new rule.
-fn degree(reformulation: &Reformulation, kind: NewRule) -> u32
-    ensures { result ≡ new_degree reformulation.now.rule reformulation.now.fresh kind }
-{
-    match kind {
-        NewRule::AtLeast => reformulation.rule.degree + reformulation.fresh as u32,
-        NewRule::AtMost => reformulation.fresh as u32,
-        NewRule::Order(_) => 1,
-    }
-}
-
 impl Reformulation {
+    // Its fresh variables.
+    fn fresh_ones(&self) -> Fresh
+        ensures variables { result.variables ≡ self.now.variables }
+        ensures number { result.number ≡ self.now.fresh }
+    {
+        Fresh {
+            variables: self.variables,
+            number: self.fresh,
+        }
+    }
+
+    // The coefficient of a variable in a new rule.
+    fn coefficient_in(&self, kind: NewRule, i: usize) -> i32
+        requires here { i < 80 }
+        requires among { Among self.now.fresh kind }
+        ensures { result ≡ new_row self.now.rule self.now.variables self.now.fresh kind i }
+    {
+        let fresh = self.fresh_ones().has(i);
+        match kind {
+            NewRule::AtLeast => if fresh { -1 } else { self.rule.coefficients[i] },
+            NewRule::AtMost => if fresh {
+                1
+            } else {
+                turned(self.rule.coefficients[i])
+            },
+            NewRule::Order(j) => in_order(self.variables, j, i),
+        }
+    }
+
+    // The coefficients of a new rule.
+    fn row(&self, kind: NewRule) -> [i32; 80]
+        requires { Among self.now.fresh kind }
+        ensures { (i : ℕ) → i < 80 → at result i ≡ new_row self.now.rule self.now.variables self.now.fresh kind i }
+    {
+        array::from_fn(|i| self.coefficient_in(kind, i))
+    }
+
+    // The degree of a new rule.
+    fn degree(&self, kind: NewRule) -> u32
+        ensures { result ≡ new_degree self.now.rule self.now.fresh kind }
+    {
+        match kind {
+            NewRule::AtLeast => self.rule.degree + self.fresh as u32,
+            NewRule::AtMost => self.fresh as u32,
+            NewRule::Order(_) => 1,
+        }
+    }
+
     // How many new rules there are.
     pub fn rules(&self) -> usize
         ensures { result ≡ rules_needed self.now.fresh }
@@ -108,8 +105,8 @@ impl Reformulation {
         }
         let kind = nth(k);
         Some(Rule {
-            coefficients: row(self, kind),
-            degree: degree(self, kind),
+            coefficients: self.row(kind),
+            degree: self.degree(kind),
         })
     }
 }

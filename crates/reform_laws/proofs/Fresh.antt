@@ -6,6 +6,7 @@ use Rattle.rules.specs.Rule.{size, kept, Full}
 use Rattle.rules.specs.declared.Mark.{Mark}
 use Rattle.rules.specs.declared.Mark.TheVariants.{Free, Zero, One}
 use Rattle.counting.specs.Rounds.{literal_weight}
+use Rattle.counting.proofs.Counting.{kept_none}
 use Rattle.reform_laws.specs.Reform.{fresh, turned, less}
 
 pub fresh_old : (v k i : ℕ) → i < v → fresh v k i ≡ false
@@ -47,11 +48,6 @@ pub place : (v k i : ℕ) → Place v k i
 place v k i = elim (cases_lt i v) [ inl l ↦ old l | inr g ↦ elim (cases_lt i (v + k)) [ inl l ↦ new g l | inr o ↦ beyond o ] ]
 
 -- ---- one term
-pub kept_none : (m : Mark) → kept (pos 0) m ≡ 0
-kept_none Free = refl
-kept_none Zero = refl
-kept_none One = refl
-
 pub kept_zero : (a : ℤ) (m : Mark) → a ≡ pos 0 → kept a m ≡ 0
 kept_zero a m e = ap (λ z. kept z m) e ∙ kept_none m
 

@@ -9,8 +9,9 @@ use Rattle.rules.specs.declared.Mark.TheVariants.{Free, Zero, One}
 use Rattle.rules.proofs.Sum.{total_le, total_same, total_add, total_times, total_none, total_le_but, part_le}
 use Rattle.rules.proofs.Rule.{kept_le_size}
 use Rattle.cores.specs.Cores.{sizes}
+use Rattle.counting.proofs.Counting.{kept_none}
 use Rattle.reform_laws.specs.Reform.{fresh_needed, fresh, at_least_row, at_most_row, order_row, MeetsNew, less, new_weight, Suits, Setting, OneSetting, Promise, Reformulating}
-use Rattle.reform_laws.proofs.Fresh.{fresh_old, fresh_in, fresh_out, one_if, fresh_count, old, new, beyond, place, kept_none, kept_zero, mark_cases, both_marks, both_literals, kept_less, size_less, set_fresh, kept_old, set_on, set_off, set_full}
+use Rattle.reform_laws.proofs.Fresh.{fresh_old, fresh_in, fresh_out, one_if, fresh_count, old, new, beyond, place, kept_zero, mark_cases, both_marks, both_literals, kept_less, size_less, set_fresh, kept_old, set_on, set_off, set_full}
 
 module _ (u : ℕ → ℤ) (b t v k c : ℕ) (w : ℕ → ℤ) (suits : Suits u b t c w v) (needed : k ≡ fresh_needed u b) (room : v + k ≤ 80) where
   many : sizes 80 u ≡ b + k

@@ -5,7 +5,6 @@
 ghost use Rattle.reform_laws.specs.Reform.{Reformulating};
 
 // Every marking that meets the count rule has exactly one setting of the fresh variables, at the same price.
-#[tactic(auto, using(crate::proofs::Reform::reformulating))]
 pub fn reformulating_keeps_the_price()
     ensures { Reformulating }
 {}

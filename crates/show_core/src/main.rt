@@ -8,15 +8,16 @@
 mod steps;
 
 use anyhow::anyhow;
-use core_text::line::{Line, is_remark};
+use core_text::line::Line;
 use std::io;
 use steps::show_line;
+use tally::is_remark;
 
 fn main(rt: HostRuntime) -> anyhow::Result<()> {
     let text = io::read_to_string(rt.alloc(), rt.stdin())?;
     for line in text.lines() {
         if !is_remark(line) {
-            let Some(written) = Line::of(line) else {
+            let Ok(written) = Line::try_from(line) else {
                 return Err(anyhow!("a line is not a rule with weights"));
             };
             show_line(&rt, rt.alloc(), &written)?;

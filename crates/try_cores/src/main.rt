@@ -6,21 +6,23 @@
 // with status 1 where some disagree.
 #![tactic(auto)]
 
-mod tally;
-
 use anyhow::anyhow;
-use core_text::line::{Line, is_remark};
-use core_text::show::numbers;
+use core_text::line::Line;
+use core_text::show::Numbers;
 use gains::best::best_count_rule;
-use gains::kinds::{Best, Round};
+use gains::kinds::Round;
 use rules::term::Rule;
 use std::alloc::{AllocError, Global};
 use std::io;
-use tally::Tally;
+use tally::compared;
 
 fn main(rt: HostRuntime) -> anyhow::Result<()> {
     let list = io::read_to_string(rt.alloc(), rt.stdin())?;
-    let tally = compare_all(&rt, rt.alloc(), list.as_str())?;
+    let tally = compared(
+        "cores",
+        list.as_str(),
+        |line| compare(&rt, rt.alloc(), line),
+    )?;
     println!(rt; "{tally}")?;
     if tally.is_whole() {
         Ok(())
@@ -29,24 +31,13 @@ fn main(rt: HostRuntime) -> anyhow::Result<()> {
     }
 }
 
-// Holds each line of the list against what comes of its core.
-fn compare_all(rt: &impl Print, heap: Global, list: &str) -> anyhow::Result<Tally> {
-    let mut tally = Tally::new();
-    for line in list.lines() {
-        if !is_remark(line) {
-            tally.count(compare(rt, heap, line)?);
-        }
-    }
-    Ok(tally)
-}
-
 // Whether what comes of the core of a line is what the line expects; if not, both are printed.
 fn compare(rt: &impl Print, heap: Global, line: &str) -> anyhow::Result<bool> {
-    let Some(core) = Line::of(line) else {
+    let Ok(core) = Line::try_from(line) else {
         println!(rt; "not a core: {line}")?;
         return Ok(false);
     };
-    let got = outcome(heap, &core.rule, &core.weights.numbers)?;
+    let got = outcome(heap, &core.rule, &core.weights.places())?;
     if got.as_bytes() == core.rest.as_bytes() {
         return Ok(true);
     }
@@ -58,10 +49,10 @@ fn compare(rt: &impl Print, heap: Global, line: &str) -> anyhow::Result<bool> {
 // What comes of a core, as the list writes it.
 fn outcome(heap: Global, core: &Rule, price: &[i32; 80]) -> Result<String, AllocError> {
     match best_count_rule(core, price) {
-        Best::CannotBeMet => String::from_str(heap, "cannot be met"),
-        Best::Nothing => String::from_str(heap, "nothing"),
-        Best::Kept(kept) => {
-            let literals = numbers(heap, &kept.rule.coefficients)?;
+        Err(refusal) => format!(in heap; "{refusal}"),
+        Ok(None) => String::from_str(heap, "nothing"),
+        Ok(Some(kept)) => {
+            let literals = Numbers(&kept.rule.coefficients);
             let weight = kept.weight;
             let count = kept.rule.degree;
             let gain = Round { weight, count }.gain();

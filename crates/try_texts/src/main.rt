@@ -10,31 +10,21 @@ mod list;
 mod outcome;
 
 use anyhow::anyhow;
-use list::{Case, Tally};
+use list::Case;
 use outcome::Outcome;
 use std::alloc::Global;
 use std::io;
+use tally::compared;
 
 fn main(rt: HostRuntime) -> anyhow::Result<()> {
     let list = io::read_to_string(rt.alloc(), rt.stdin())?;
-    let tally = compare_all(&rt, rt.alloc(), list.as_str())?;
+    let tally = compared("texts", list.as_str(), |line| compare(&rt, rt.alloc(), line))?;
     println!(rt; "{tally}")?;
     if tally.is_whole() {
         Ok(())
     } else {
         Err(anyhow!("some texts disagree"))
     }
-}
-
-// Holds each line of the list against what reading its text comes to.
-fn compare_all(rt: &impl Print, heap: Global, list: &str) -> anyhow::Result<Tally> {
-    let mut tally = Tally::new();
-    for line in list.lines() {
-        if !list::is_remark(line) {
-            tally.count(compare(rt, heap, line)?);
-        }
-    }
-    Ok(tally)
 }
 
 // Reads the text of one line, and says whether it comes to what the line expects.
