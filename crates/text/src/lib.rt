@@ -51,7 +51,11 @@ fn run_end(text: &[u8], from: usize, class: Class) -> usize
     requires { from ≤ length text.now }
     ensures { Run class text.now from result }
 {
-    from + text[from..].iter().take_while(|b| class.has(**b)).count()
+    let rest = &text[from..];
+    from + rest
+        .iter()
+        .position(|b| !class.has(*b))
+        .unwrap_or(rest.len())
 }
 
 // The number that the digits write or, where that is larger, one that is past every limit.
@@ -60,7 +64,7 @@ fn capped(digits: &[u8]) -> u32
     ensures { result ≡ min 100000001 (decimal digits.now) }
 {
     let mut sum: u32 = 0;
-    // a fold would be no shorter, and its closure could not be proved to stay in range
+    // a fold is no plainer: nothing bounds its sum, so that each step would have to saturate
     for b in digits {
         sum = (sum * 10 + u32::from(b.saturating_sub(48))).min(PAST_EVERY_LIMIT);
     }
