@@ -1,7 +1,6 @@
 -- Runs of bytes: there is one from each place, and only one.
-use Rattle.std.proofs.Common.{◌≡◌, ℕ, zero, suc, ◌+◌, ◌-◌, ◌<◌, ◌≤◌, Bool, true, false, cond, not, ltb, List, [], ◌∷◌, length, get_or, drop, Option, Some, None, sym, refl, ap, ◌∙◌, subst, arith}
-use Rattle.std.specs.Option.{unwrap_or}
-use Rattle.std.specs.List.{prefix_len, position_or_len}
+use Rattle.std.proofs.Common.{◌≡◌, ℕ, zero, suc, ◌+◌, ◌-◌, ◌<◌, ◌≤◌, Bool, true, false, ltb, List, length, get_or, drop, sym, refl, ap, ◌∙◌, subst, arith}
+use Rattle.std.specs.List.{prefix_len}
 use Rattle.std.proofs.lemmas.List.{get_or-drop, length-drop}
 use Rattle.std.proofs.lemmas.List.Sums.{prefix_len_passes, prefix_len_stops, prefix_len-le-length}
 use Rattle.forms.proofs.Exactness.{both}
@@ -59,25 +58,6 @@ run_within text c (suc fuel) from le h = longer text c from le (sees text c from
 pub run_some : (text : List ℕ) (c : Class) (from : ℕ) → from ≤ length text → (end : ℕ) × Run c text from end
 run_some text c from le = run_within text c (suc (length text - from)) from le (omega arith)
 
--- where the first is that stops it, or how many there are
-pub first_or_all : {X : Type 0} (p : X → Bool) (xs : List X) (r : Option ℕ) (n : ℕ) → r ≡ cond (ltb (position_or_len p xs) (length xs)) (Some (position_or_len p xs)) None → n ≡ unwrap_or r (length xs) → n ≡ position_or_len p xs
-first_or_all p xs r n e f = by (ltb (position_or_len p xs) (length xs)) refl e
-  where
-    by : (b : Bool) → ltb (position_or_len p xs) (length xs) ≡ b → r ≡ cond b (Some (position_or_len p xs)) None → n ≡ position_or_len p xs
-    by true q h = f ∙ ap (λ (o : Option ℕ). unwrap_or o (length xs)) h
-    by false q h =
-        let l = prefix_len-le-length (λ x. not (p x)) xs in
-        let m : length xs ≤ position_or_len p xs = grind arith in
-        f ∙ ap (λ (o : Option ℕ). unwrap_or o (length xs)) h ∙ omega (arith, l, m)
-
-same_length : (c : Class) (bs : List ℕ) → position_or_len (λ b. not (belongs c b)) bs ≡ prefix_len (belongs c) bs
-same_length c [] = refl
-same_length c (b ∷ bs) = by (belongs c b) (same_length c bs)
-  where
-    by : (x : Bool) → position_or_len (λ b. not (belongs c b)) bs ≡ prefix_len (belongs c) bs → cond (not (not x)) (1 + position_or_len (λ b. not (belongs c b)) bs) 0 ≡ cond x (1 + prefix_len (belongs c) bs) 0
-    by true e = ap (λ (n : ℕ). 1 + n) e
-    by false e = refl
-
 -- as many bytes from there on as are of the class
 module _ (c : Class) (text : List ℕ) (from : ℕ) (le : from ≤ length text) where
   front : ℕ
@@ -105,9 +85,9 @@ module _ (c : Class) (text : List ℕ) (from : ℕ) (le : from ≤ length text) 
       inside (from + front) false l (sym (ap (belongs c) (get_or-drop from text front 0)) ∙ q)
   ended false p = grind arith
 
-  pub run_front : (n : ℕ) → n ≡ position_or_len (λ b. not (belongs c b)) (drop from text) → Run c text from (from + n)
+  pub run_front : (n : ℕ) → n ≡ prefix_len (belongs c) (drop from text) → Run c text from (from + n)
   unfolding front
-  run_front n e = subst (λ (k : ℕ). Run c text from (from + k)) (sym (e ∙ same_length c (drop from text))) (record {
+  run_front n e = subst (λ (k : ℕ). Run c text from (from + k)) (sym e) (record {
     forward = omega arith;
     within = omega (arith, within_front);
     all = passed;

@@ -123,7 +123,7 @@ impl<'a> Reader<'a> {
     pub fn stands_at(&self, b: u8) -> bool
         ensures { result ≡ stands self.now.text.now b self.now.at }
     {
-        self.text.get(self.at) == Some(&b)
+        self.text.get(self.at).is_some_and(|next| *next == b)
     }
 
     // What is wrong here with a token that begins at `start`.
