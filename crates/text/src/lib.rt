@@ -51,11 +51,7 @@ fn run_end(text: &[u8], from: usize, class: Class) -> usize
     requires { from ≤ length text.now }
     ensures { Run class text.now from result }
 {
-    let rest = &text[from..];
-    from + rest
-        .iter()
-        .position(|b| !class.has(*b))
-        .unwrap_or(rest.len())
+    from + text[from..].iter().take_while(|b| class.has(**b)).count()
 }
 
 // The number that the digits write or, where that is larger, one that is past every limit.
