@@ -11,6 +11,7 @@ pub fn reading_is_unique()
 {}
 
 // What the reader's grammar makes of a text is what the language of sheets says of it, in both directions.
+#[tactic(auto, using(crate::proofs::Whole::same_language))]
 pub fn reading_is_the_language()
     ensures { SameLanguage }
 {}

@@ -1,5 +1,5 @@
 -- What the loop over the rules keeps.
-use Rattle.std.proofs.Common.{◌≡◌, ℕ, ◌+◌, ◌-◌, ◌<◌, ◌≤◌, true, false, List, [], ◌∷◌, ◌++◌, length, ℤ, Ok, Err, Result, sym, refl, ap, ◌∙◌, subst, append_assoc, append-nil, arith, length-append}
+use Rattle.std.proofs.Common.{◌≡◌, ℕ, ◌+◌, ◌<◌, ◌≤◌, true, false, List, [], ◌∷◌, ◌++◌, length, ℤ, Ok, Err, Result, sym, refl, ap, ◌∙◌, subst, append_assoc, append-nil, arith, length-append}
 use Rattle.faults.specs.declared.fault.SheetFault.{SheetFault}
 use Rattle.faults.specs.declared.fault.SheetFault.TheVariants.{Count}
 use Rattle.text.specs.declared.reader.Reader.{Reader}
@@ -30,10 +30,6 @@ pub all_rows_more : (qs : List Rule) (q : Rule) → all_rows (qs ++ q ∷ []) �
 all_rows_more [] q = append-nil (rule_rows q)
 all_rows_more (p ∷ ps) q = ap (λ (x : List Row). rule_rows p ++ x) (all_rows_more ps q) ∙ sym (append_assoc (rule_rows p) (all_rows ps) (rule_rows q))
 
-some_row : (k : Comparison) → 1 ≤ rows_for k
-some_row AtLeast = omega arith
-some_row Equal = omega arith
-
 rows_count : (k : Comparison) (cs : List ℤ) (b : ℤ) → length (rows_by k cs b) ≡ rows_for k
 rows_count AtLeast cs b = refl
 rows_count Equal cs b = refl
@@ -48,29 +44,22 @@ pub record SoFar (T U : List ℤ) (rows count : ℕ) (qs : List Rule) : Type 0 w
   pub rows_is : rows ≡ rows_of qs
   pub count_is : count ≡ length qs
   pub lined : Lined (all_rows qs)
-  pub room : rows ≤ 64
-  pub few : count ≤ rows
 
-pub so_far_none : (T : List ℤ) → SoFar T T 0 0 []
-so_far_none T = record { holds = λ front n h. h; rows_is = refl; count_is = refl; lined = tt; room = omega arith; few = omega arith }
+pub so_far_none : (T : List ℤ) (rows count : ℕ) → rows ≡ 0 → count ≡ 0 → SoFar T T rows count []
+so_far_none T rows count e f = record { holds = λ front n h. h; rows_is = e; count_is = f; lined = tt }
 
-pub so_far_more : (T U V : List ℤ) (rows count more : ℕ) (qs : List Rule) (q : Rule) → SoFar T U rows count qs → Narrow (words q.sum) → more ≡ rows_for q.comparison → rows_for q.comparison ≤ 64 - rows → Appends rows U V (rule_rows q) → SoFar T V (rows + more) (count + 1) (qs ++ q ∷ [])
-so_far_more T U V rows count more qs q s n e fits a =
+pub so_far_more : (T U V : List ℤ) (rows count more next : ℕ) (qs : List Rule) (q : Rule) → SoFar T U rows count qs → Narrow (words q.sum) → more ≡ rows + rows_for q.comparison → next ≡ count + 1 → Appends rows U V (rule_rows q) → SoFar T V more next (qs ++ q ∷ [])
+so_far_more T U V rows count more next qs q s n e f a =
     let r = s.rows_is in
     let k = s.count_is in
-    let l = s.room in
     let t = ap length (all_rows_more qs q) in
     let c = rows_count q.comparison (words q.sum) q.bound in
     let m = length-append (all_rows qs) (rule_rows q) in
-    let p = s.few in
-    let o = some_row q.comparison in
     record {
       holds = λ front head h. (a front (all_rows qs) head s.lined (sym r) (s.holds front head h) ∙ ap (table_with front) (sym (all_rows_more qs q)));
       rows_is = omega arith;
       count_is = omega (arith, length-append qs (q ∷ []));
       lined = subst Lined (sym (all_rows_more qs q)) (lined_append (all_rows qs) (rule_rows q) s.lined (rows_lined q.comparison (words q.sum) q.bound n));
-      room = omega arith;
-      few = omega arith;
     }
 
 module _ (h : Numbers) (count rows : ℕ) (qs : List Rule) (c : count ≡ length qs) (n : rows ≡ rows_of qs) (r s : Reader) where
@@ -121,8 +110,8 @@ module _ (h : Numbers) (r s : Reader) (T U : List ℤ) (rows count : ℕ) (qs : 
       given : s.at ≡ length s.text.now → Step (λ t. Give (complete t h qs)) s s (Err (Count s.at))
       given at = record { same = refl; reads = record { is = ap (λ (z : Result (List Rule) SheetFault). outcome z s.at) (too_few s.text.now h qs count s.at f.count_is at c) } }
 
-  pub rules_end : length s.text.now ≤ s.at → h.rules ≤ count → RulesRead h r s T U (Ok rows)
-  rules_end l c = record { rules = qs; read = step_goes _ _ _ _ _ _ _ (loop_ends l) given; count = f.rows_is; few = f.room; holds = f.holds }
+  pub rules_end : rows ≤ 64 → length s.text.now ≤ s.at → h.rules ≤ count → RulesRead h r s T U (Ok rows)
+  rules_end few l c = record { rules = qs; read = step_goes _ _ _ _ _ _ _ (loop_ends l) given; count = f.rows_is; few = few; holds = f.holds }
     where
       given : Step (λ t. Give (complete t h qs)) s s (Ok qs)
       given = record { same = refl; reads = record { is = ap (λ (z : Result (List Rule) SheetFault). outcome z s.at) (enough s.text.now h qs count f.count_is c) } }

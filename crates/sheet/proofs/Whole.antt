@@ -28,6 +28,9 @@ pub zeros_table : (T : List ℤ) → Zeros T → T ≡ table_with (replicate 44 
 unfolding laid
 zeros_table T h = h ∙ sym (replicate-append-replicate 44 2624 (pos 0))
 
+pub fronts_as : (U V : List ℤ) (parts rows : ℕ) (q p : Option Sum) → q ≡ p → Fronts U V (front_of parts rows q) → Fronts U V (front_of parts rows p)
+fronts_as U V parts rows q p e f = subst (λ (o : Option Sum). Fronts U V (front_of parts rows o)) e f
+
 -- what follows the header: the gap from r to s, the price line to u, the rules to v
 module _ (h : Numbers) (r s u : Reader) (gap : Step Gap r s (Ok tt)) where
   pub price_wrong : (U : List ℤ) (e : SheetFault) (x : Result (Unit {0}) SheetFault) → Step (λ t. Price t h.parts) s u (Err e) → x ≡ Err e → BodyRead h r u U x

@@ -3,24 +3,24 @@
 
 ghost use Rattle.std.specs.Prelude.{◌≡◌, ℕ, ◌+◌, ◌-◌, ◌<◌, ◌≤◌, length, IfOk};
 ghost use Rattle.text.specs.Reading.{Step};
-ghost use Rattle.lines.specs.Lines.{rows_for};
+ghost use Rattle.lines.specs.Lines.{numbers, rows_for};
 ghost use Rattle.sheet.specs.Reads.{RulesRead, Zeros, BodyRead, TextRead, Settled, Reading};
 ghost use Rattle.opb.specs.Sheets.{Price, RuleLine};
 
+mod progress;
+
 use faults::fault::{RunFault, SheetFault};
-use lines::line::{Header, Rule, Sum};
+use lines::line::{Header, Parts, Rule, Sum};
+use progress::Progress;
+use rows::ROWS;
 use text::reader::{Limit, Reader};
 
 // The words of a table.
-pub const WORDS: usize = 2668;
-
-// The rows of a table.
-const ROWS: usize = 64;
+pub const WORDS: usize = rows::WORDS;
 
 // The price line, if one stands here, with the gap after it.
-fn price(reader: &mut Reader, parts: usize) -> Result<Option<Sum>, SheetFault>
-    requires { parts ≤ 40 }
-    ensures { Step (λ t. Price t parts) reader.old reader.new result }
+fn price(reader: &mut Reader, parts: Parts) -> Result<Option<Sum>, SheetFault>
+    ensures { Step (λ t. Price t parts.number) reader.old reader.new result }
 {
     if !reader.stands_at(b'm') {
         return Ok(None);
@@ -30,61 +30,51 @@ fn price(reader: &mut Reader, parts: usize) -> Result<Option<Sum>, SheetFault>
     Ok(Some(sum))
 }
 
-// A rule after `count` others, which take `rows` rows, with the gap after it.
-fn rule_line(
-    reader: &mut Reader,
-    header: Header,
-    count: usize,
-    rows: usize,
-) -> Result<Rule, SheetFault>
-    requires { (header.parts ≤ 40) × (rows ≤ 64) }
-    ensures reads { Step (λ t. RuleLine t header count rows) reader.old reader.new result }
-    ensures room { IfOk result (λ q. rows_for q.comparison ≤ 64 - rows) }
+// A rule after those that are written, with the gap after it.
+fn rule_line(reader: &mut Reader, header: Header, progress: Progress) -> Result<Rule, SheetFault>
+    ensures reads { Step (λ t. RuleLine t (numbers header) progress.rules progress.rows) reader.old reader.new result }
+    ensures room { IfOk result (λ q. rows_for q.comparison ≤ 64 - progress.rows) }
 {
     let at = reader.at;
     let first = reader.value(Limit::Coefficient)?;
-    if count >= header.rules {
+    if progress.rules >= header.rules {
         return Err(SheetFault::Count(at));
     }
-    let rule = lines::rule_after(reader, header.parts, ROWS - rows, first)?;
+    let rule = lines::rule_after(reader, header.parts, ROWS - progress.rows, first)?;
     reader.gap();
     Ok(rule)
 }
 
 // Rules up to the end of the text, written into the rows of the table; how many rows they take.
-fn rules(reader: &mut Reader, header: Header, table: &mut [i32]) -> Result<usize, SheetFault>
-    requires { (header.parts ≤ 40) × (length table.old ≡ 2668) }
-    ensures { RulesRead header reader.old reader.new table.old table.new result }
+fn rules(reader: &mut Reader, header: Header, table: &mut [i32; WORDS]) -> Result<usize, SheetFault>
+    ensures { RulesRead (numbers header) reader.old reader.new table.old table.new result }
 {
-    let mut count = 0;
-    let mut rows = 0;
+    let mut progress = Progress::new();
     while reader.at < reader.text.len() {
-        let rule = rule_line(reader, header, count, rows)?;
-        rows::put_rule(table, rows, &rule);
-        rows += rule.comparison.rows();
-        count += 1;
+        let rule = rule_line(reader, header, progress)?;
+        rows::put_rule(table, progress.rows, &rule);
+        progress = progress.with(&rule);
     }
-    if count < header.rules {
+    if progress.rules < header.rules {
         return Err(SheetFault::Count(reader.at));
     }
-    Ok(rows)
+    Ok(progress.rows)
 }
 
 // What follows the header, written into a table of zeros.
-fn body(reader: &mut Reader, header: Header, table: &mut [i32]) -> Result<(), SheetFault>
-    requires parts { header.parts ≤ 40 }
-    requires zeros { Zeros table.old }
-    ensures { BodyRead header reader.old reader.new table.new result }
+fn body(reader: &mut Reader, header: Header, table: &mut [i32; WORDS]) -> Result<(), SheetFault>
+    requires { Zeros table.old }
+    ensures { BodyRead (numbers header) reader.old reader.new table.new result }
 {
     reader.gap();
     let price = price(reader, header.parts)?;
     let rows = rules(reader, header, table)?;
-    rows::put_front(table, header.parts, rows, &price);
+    rows::put_front(table, header.parts, rows, price.as_ref());
     Ok(())
 }
 
 // A whole text, read into a table of zeros.
-fn read_text(text: &[u8], table: &mut [i32]) -> Result<(), SheetFault>
+fn read_text(text: &[u8], table: &mut [i32; WORDS]) -> Result<(), SheetFault>
     requires { Zeros table.old }
     ensures { TextRead text.now table.new result }
 {
@@ -95,8 +85,7 @@ fn read_text(text: &[u8], table: &mut [i32]) -> Result<(), SheetFault>
 }
 
 // A whole text, read into a table; a text that is refused leaves every word 0.
-fn fill_or_clear(text: &[u8], table: &mut [i32]) -> Result<(), SheetFault>
-    requires { length table.old ≡ 2668 }
+fn fill_or_clear(text: &[u8], table: &mut [i32; WORDS]) -> Result<(), SheetFault>
     ensures { Settled text.now table.new result }
 {
     table.fill(0);
@@ -114,9 +103,9 @@ fn fill_or_clear(text: &[u8], table: &mut [i32]) -> Result<(), SheetFault>
 pub fn read(text: &[u8], table: &mut [i32]) -> Result<(), RunFault>
     ensures { Reading text.now table.old table.new result }
 {
-    if table.len() != WORDS {
+    let Some(table) = table.as_mut_array() else {
         return Err(RunFault::TableLength);
-    }
+    };
     fill_or_clear(text, table)?;
     Ok(())
 }

@@ -60,7 +60,7 @@ fn capped(digits: &[u8]) -> u32
     ensures { result ≡ min 100000001 (decimal digits.now) }
 {
     let mut sum: u32 = 0;
-    // a fold would be no shorter, and its closure could not be proved to stay in range
+    // a fold is no plainer: nothing bounds its sum, so that each step would have to saturate
     for b in digits {
         sum = (sum * 10 + u32::from(b.saturating_sub(48))).min(PAST_EVERY_LIMIT);
     }
@@ -119,7 +119,7 @@ impl<'a> Reader<'a> {
     pub fn stands_at(&self, b: u8) -> bool
         ensures { result ≡ stands self.now.text.now b self.now.at }
     {
-        self.text.get(self.at) == Some(&b)
+        self.text.get(self.at).is_some_and(|next| *next == b)
     }
 
     // What is wrong here with a token that begins at `start`.

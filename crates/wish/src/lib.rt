@@ -7,7 +7,8 @@ ghost use Rattle.opb.specs.Sheets.{End, AloneHere};
 ghost use Rattle.wish.specs.Wishes.{AloneRead, Reading};
 
 use faults::fault::{RunFault, SheetFault, TextFault};
-use lines::line::Rule;
+use lines::line::{Parts, Rule};
+use rows::ROWS;
 use table::checked::Checked;
 use text::reader::{Class, Limit, Reader};
 
@@ -22,9 +23,8 @@ fn at_end(reader: &Reader) -> Result<(), TextFault>
 }
 
 // One rule about so many parts, for which `room` rows are left, and nothing else but blanks.
-fn alone(reader: &mut Reader, parts: usize, room: usize) -> Result<Rule, SheetFault>
-    requires { parts ≤ 40 }
-    ensures { Step (λ t. AloneHere t parts room) reader.old reader.new result }
+fn alone(reader: &mut Reader, parts: Parts, room: usize) -> Result<Rule, SheetFault>
+    ensures { Step (λ t. AloneHere t parts.number room) reader.old reader.new result }
 {
     reader.pass(Class::Blank);
     let first = reader.value(Limit::Coefficient)?;
@@ -35,9 +35,8 @@ fn alone(reader: &mut Reader, parts: usize, room: usize) -> Result<Rule, SheetFa
 }
 
 // The text of one rule alone.
-fn read_alone(text: &[u8], parts: usize, room: usize) -> Result<Rule, SheetFault>
-    requires { parts ≤ 40 }
-    ensures { AloneRead text.now parts room result }
+fn read_alone(text: &[u8], parts: Parts, room: usize) -> Result<Rule, SheetFault>
+    ensures { AloneRead text.now parts.number room result }
 {
     text::check_length(text)?;
     let mut reader = Reader::new(text);
@@ -50,6 +49,9 @@ pub fn read_rule(text: &[u8], table: &[i32]) -> Result<Rule, RunFault>
 {
     table::check(table)?;
     let sheet = Checked::new(table);
-    let rule = read_alone(text, sheet.parts(), 64 - sheet.rules())?;
+    let parts = Parts {
+        number: sheet.parts(),
+    };
+    let rule = read_alone(text, parts, ROWS - sheet.rules())?;
     Ok(rule)
 }

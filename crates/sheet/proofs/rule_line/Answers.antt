@@ -11,11 +11,11 @@ returns-in_err-first c = record {
   reads = step_from _ _ _ _ (step_stops _ _ _ _ _ _ (step_fault _ _ _ _ _ c.in_err-first.ensures) (err_is _ _ c.from_residual.ensures.1));
 }
 
-pub returns-then-count-header : goal.returns-then-count-header
-returns-then-count-header c = record {
+pub returns-then-progress-header : goal.returns-then-progress-header
+returns-then-progress-header c = record {
   room = tt;
   reads = step_from _ _ _ _ (step_goes _ _ _ _ _ _ _ (step_well _ _ _ _ _ c.in_ok-first.ensures)
-      (step_stops _ _ _ _ _ _ (step_give _ _ _ (surplus _ _ _ c.if-count-header.true)) refl));
+      (step_stops _ _ _ _ _ _ (step_give _ _ _ (surplus _ _ _ c.if-progress-header.true)) refl));
 }
 
 pub returns-in_err-rule : goal.returns-in_err-rule
@@ -24,7 +24,7 @@ returns-in_err-rule c =
     record {
       room = search rules;
       reads = step_from _ _ _ _ (step_goes _ _ _ _ _ _ _ (step_well _ _ _ _ _ c.in_ok-first.ensures)
-          (step_goes _ _ _ _ _ _ _ (step_give _ _ _ (awaited _ _ _ c.if-count-header.false))
+          (step_goes _ _ _ _ _ _ _ (step_give _ _ _ (awaited _ _ _ c.if-progress-header.false))
           (step_stops _ _ _ _ _ _ (rule_at _ _ _ _ _ _ _ (to_z-of_z w32 _ fits) c.in_err-rule.ensures.reads) (err_is _ _ c.from_residual-in_err-rule.ensures.1))));
     }
 
@@ -34,7 +34,7 @@ returns c =
     record {
       room = c.in_ok-rule.ensures.room;
       reads = step_from _ _ _ _ (step_goes _ _ _ _ _ _ _ (step_well _ _ _ _ _ c.in_ok-first.ensures)
-          (step_goes _ _ _ _ _ _ _ (step_give _ _ _ (awaited _ _ _ c.if-count-header.false))
+          (step_goes _ _ _ _ _ _ _ (step_give _ _ _ (awaited _ _ _ c.if-progress-header.false))
           (step_goes _ _ _ _ _ _ _ (rule_at _ _ _ _ _ _ _ (to_z-of_z w32 _ fits) c.in_ok-rule.ensures.reads)
           (step_goes _ _ _ _ _ _ _ (step_well _ _ _ _ _ c.gap.ensures) (step_give _ _ _ refl)))));
     }

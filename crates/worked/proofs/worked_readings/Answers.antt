@@ -1,5 +1,0 @@
-use Rattle.worked.proofs.Worked.{worked}
-use Rattle.worked.proofs.worked_readings.Goals as goal
-
-pub returns : goal.returns
-returns c = worked
