@@ -4,10 +4,11 @@
 // words that name no board are refused: it prints why, and ends with status 1.
 #![tactic(auto)]
 
-use anyhow::anyhow;
+use anyhow::bail;
 use board::Board;
-use refused::{refused_board, refused_sheet};
-use statement::statement;
+use refused::refused_sheet;
+use refused::shown::BoardRefusal;
+use statement::shown::Statement;
 use std::env;
 use std::io::Read;
 use table::WORDS;
@@ -23,11 +24,9 @@ fn main(rt: HostRuntime) -> anyhow::Result<()> {
 
 fn run(rt: &HostRuntime) -> anyhow::Result<()> {
     let words: Vec<String> = env::args(rt)?.skip(1).collect(rt.alloc())?;
-    if let [first, ..] = words.as_slice() {
-        if first.as_str() == "--help" {
-            println!(rt; "{USAGE}")?;
-            return Ok(());
-        }
+    if words.first().is_some_and(|word| word.as_str() == "--help") {
+        println!(rt; "{USAGE}")?;
+        return Ok(());
     }
     let mut text: Vec<u8> = Vec::new(rt.alloc());
     rt.stdin().read_to_end(&mut text)?;
@@ -41,22 +40,26 @@ fn audit(rt: &HostRuntime, text: &[u8], words: &[String]) -> anyhow::Result<()> 
         Ok(()) => hold(rt, Checked::new(&table), words),
         Err(fault) => {
             rt.print(refused_sheet(rt.alloc(), text, fault)?)?;
-            Err(anyhow!("the sheet is refused"))
+            bail!("the sheet is refused")
         }
     }
 }
 
 // Prints what the board reaches of the sheet's rules and what it costs.
 fn hold(rt: &HostRuntime, sheet: Checked, words: &[String]) -> anyhow::Result<()> {
-    let heap = rt.alloc();
     match Board::read(words, &sheet) {
         Ok(board) => {
-            rt.print(statement(heap, &sheet, &board)?)?;
+            rt.print(Statement { sheet, board })?;
             Ok(())
         }
         Err(misread) => {
-            rt.print(refused_board(heap, words, misread, sheet.parts())?)?;
-            Err(anyhow!("the board is refused"))
+            let parts = sheet.parts();
+            rt.print(BoardRefusal {
+                words,
+                misread,
+                parts,
+            })?;
+            bail!("the board is refused")
         }
     }
 }

@@ -1,5 +1,7 @@
 -- How literals, terms and rules are printed.
-use Rattle.std.specs.Prelude.{ℕ, zero, suc, ◌+◌, Bool, true, false, cond, List, [], ◌∷◌, ◌++◌, ℤ, pos, codes, decimal, ◌==◌, int_le, unsigned_abs}
+use Rattle.std.specs.Prelude.{ℕ, zero, suc, ◌+◌, Bool, true, false, cond, not, List, [], ◌∷◌, ◌++◌, ℤ, pos, codes, decimal, ◌==◌, int_le, unsigned_abs}
+use Rattle.rules.specs.Words.{term_words}
+use Rattle.rules.specs.declared.term.Term.{Term}
 use Rattle.table.specs.Layout.{coefficient, degree}
 
 -- the literal of the part i, counted from 0: x1, or -x1 where it is left out
@@ -19,6 +21,13 @@ linked (b ∷ bs) term = (b ∷ bs) ++ (codes " + " ++ term)
 -- the same, unless the coefficient is 0
 abbrev pub with_term : List ℕ → ℤ → ℕ → List ℕ
 with_term text a i = cond (unsigned_abs a == 0) text (linked text (term_text a i))
+
+-- a term as a value, and what is written of it after a text that is empty or not
+abbrev pub signed_term : ℤ → ℕ → Term
+signed_term a i = record { coefficient = unsigned_abs a; literal = record { variable = i; negated = not (int_le (pos 0) a) } }
+
+abbrev pub next_text : Bool → Term → List ℕ
+next_text follows t = cond (t.coefficient == 0) [] (cond follows (codes " + " ++ term_words t) (term_words t))
 
 -- the terms of rule k on the parts below n
 unfoldable pub terms_text : List ℤ → ℕ → ℕ → List ℕ

@@ -1,11 +1,8 @@
 -- What is printed of a refusal.
 use Rattle.std.specs.Prelude.{◌≡◌, ℕ, ◌+◌, ◌-◌, ◌^◌, min, Bool, true, false, cond, List, [], ◌∷◌, ◌++◌, map, length, take, drop, replicate, codes, decimal, nat_lt, slice_index_or}
 use Rattle.faults.specs.Refusals.{sheet_refusal, run_refusal}
+use Rattle.faults.specs.Words.{run_words}
 use Rattle.faults.specs.declared.fault.Refusal.{Refusal}
-use Rattle.faults.specs.declared.fault.TextFault.{TextFault}
-use Rattle.faults.specs.declared.fault.TextFault.TheVariants.{TooLong, Misplaced, Beyond, Cut}
-use Rattle.faults.specs.declared.fault.SheetFault.{SheetFault}
-use Rattle.faults.specs.declared.fault.SheetFault.TheVariants.{Text, Unknown, Repeated, Count, NoRoom}
 use Rattle.faults.specs.declared.fault.RunFault.{RunFault}
 use Rattle.faults.specs.declared.fault.RunFault.TheVariants.{Sheet, TableLength, Layout}
 use Rattle.spot.specs.Spot.{Line, Shows}
@@ -13,25 +10,6 @@ use Rattle.spot.specs.declared.view.Spot.{Spot}
 use Rattle.spot.specs.declared.view.Window.{Window}
 use Rattle.board.specs.Trouble.{trouble_words}
 use Rattle.board.specs.declared.words.Misread.{Misread}
-
--- what each fault says
-abbrev pub text_words : TextFault → List ℕ
-text_words TooLong = codes "the text has more than 16,384 bytes"
-text_words (Misplaced at) = codes "this cannot stand here"
-text_words (Beyond at) = codes "this number is beyond its limits"
-text_words (Cut at) = codes "the text ends too early"
-
-abbrev pub sheet_words : SheetFault → List ℕ
-sheet_words (Text fault) = text_words fault
-sheet_words (Unknown at) = codes "the sheet declares no such part"
-sheet_words (Repeated at) = codes "this part is named before in the same sum"
-sheet_words (Count at) = codes "the header line announces another number of rules"
-sheet_words (NoRoom at) = codes "no row is left for this rule: a sheet has at most 64 rules, and `=` makes two"
-
-abbrev pub run_words : RunFault → List ℕ
-run_words (Sheet fault) = sheet_words fault
-run_words TableLength = codes "the table does not have 2,668 words"
-run_words (Layout word) = codes "this word of the table is not within its limits"
 
 -- the first two lines: the refusal's three numbers, and what it says
 abbrev pub head_lines : Refusal → List ℕ → List ℕ

@@ -4,6 +4,7 @@
 #[cfg(test)]
 mod tests {
     use board::Board;
+    use board::words::{Misread, Trouble};
     use faults::fault::{RunFault, SheetFault, TextFault};
     use refused::{refused_board, refused_sheet};
     use statement::statement;
@@ -13,7 +14,7 @@ mod tests {
     use table::checked::Checked;
 
     // min: 5 x1 3 -x2 with c0 = -3; 2 -x1 + 3 x2 >= 2; 1 x1 + 1 x2 >= 1; 0 >= 0
-    fn small() -> [i32; 2668] {
+    fn small() -> [i32; WORDS] {
         let mut table = [0i32; WORDS];
         table[0] = 3;
         table[1] = 3;
@@ -114,6 +115,17 @@ the board meets the sheet
 name the parts x1 to x3, each at most once: x1 takes part 1, -x1 leaves it out; a part that is not named is not taken
 "
         );
+        Ok(())
+    }
+
+    #[test]
+    fn misread(rt: HostRuntime) -> Result<(), Fail> {
+        let misread = Misread {
+            index: 1,
+            trouble: Trouble::NotALiteral,
+        };
+        let got = misread.to_string(rt.alloc())?;
+        assert_eq!(rt; got.as_str(), "word 2 is not a literal");
         Ok(())
     }
 

@@ -1,1 +1,1 @@
-mod More
+pub mod More

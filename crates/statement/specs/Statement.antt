@@ -1,9 +1,10 @@
 -- The statement of an audit, line by line.
 use Rattle.std.specs.Prelude.{ℕ, zero, suc, ◌+◌, ◌-◌, Bool, true, false, cond, List, [], ◌∷◌, ◌++◌, length, replicate, ℤ, codes, decimal, ◌==◌, nat_le}
 use Rattle.std.specs.Fmt.{signed_decimal}
-use Rattle.table.specs.Layout.{degree, parts_of, priced, rules_of}
-use Rattle.table.specs.Meaning.{price, reached}
-use Rattle.board.specs.Board.{broken_rules}
+use Rattle.table.specs.Layout.{parts_of, priced, rules_of}
+use Rattle.table.specs.Meaning.{price}
+use Rattle.board.specs.Board.{broken_rules, judged}
+use Rattle.board.specs.declared.words.Judgement.{Judgement}
 use Rattle.notation.specs.Text.{literals_text, rule_text}
 
 -- a line's end
@@ -34,9 +35,11 @@ abbrev pub row_line : List ℕ → List ℕ → List ℕ → List ℕ → List �
 row_line number verdict sum need rule =
     number ++ (codes "  " ++ (verdict ++ (codes "  " ++ (sum ++ (codes "  " ++ (need ++ (codes "  " ++ (rule ++ newline))))))))
 
+abbrev pub fare_text : List ℤ → ℕ → Judgement → List ℕ
+fare_text T k j = row_line (right_text 4 (k + 1)) (verdict_word (nat_le j.needed j.reached)) (right_text 7 j.reached) (right_text 6 j.needed) (rule_text T k)
+
 abbrev pub row_text : List ℤ → (ℕ → Bool) → ℕ → List ℕ
-row_text T x k =
-    row_line (right_text 4 (k + 1)) (verdict_word (nat_le (degree T k) (reached T k x))) (right_text 7 (reached T k x)) (right_text 6 (degree T k)) (rule_text T k)
+row_text T x k = fare_text T k (judged T k x)
 
 unfoldable pub rows_text : List ℤ → (ℕ → Bool) → ℕ → List ℕ
 rows_text T x zero = []
