@@ -6,37 +6,26 @@ ghost use Rattle.std.specs.Prelude.{◌≡◌, ℕ, ◌+◌, ◌<◌, ◌≤◌,
 ghost use Rattle.faults.specs.declared.fault.EngineFault.{EngineFault as Fault};
 ghost use Rattle.rules.specs.Rule.{marked};
 ghost use Rattle.rules.specs.Terms.{row_of, signed};
-ghost use Rattle.engine.specs.Held.{Held, Copied, FirstBroken, Added, BreaksRule, blank, no_term, variable_of, GoodTerm, FirstBad, Every};
+ghost use Rattle.engine.specs.Held.{Held, Copied, FirstBroken, Added, BreaksRule, blank, no_term, GoodTerm, FirstBad, Every};
 ghost use Rattle.engine.specs.Questions.{engine_limits, empty, with_variables, CanRaise, with_raised};
-ghost use Rattle.store.specs.View.{held_in, Raises, NamedBefore};
+ghost use Rattle.store.specs.View.{held_in, Raises};
 
 pub mod assume;
 pub mod assumed;
 pub mod keep;
+mod stands;
 
 use faults::fault::EngineFault;
 use keep::Store;
 use rules::Mark;
 use rules::reach::sum_left;
 use rules::term::{Rule, Term, WIDTH};
+use stands::stands_alone;
 
 // The most rules that an engine holds, and the greatest coefficient and degree.
 pub const ROOM: usize = 160;
 
 pub const MOST: u32 = 1_000_000_000;
-
-// Whether a term before this index has the same variable.
-fn repeats(terms: &[Term], i: usize) -> bool
-    requires { i < length terms.now }
-    ensures { Decides result (NamedBefore terms.now i) }
-{
-    for j in 0..i {
-        if terms[j].literal.variable == terms[i].literal.variable {
-            return true;
-        }
-    }
-    false
-}
 
 // Whether the term of this index is within the limits, and its variable is one of those that are there and in no term
 // before it.
@@ -44,23 +33,19 @@ fn is_good(terms: &[Term], i: usize, variables: usize, most: u32) -> bool
     requires { i < length terms.now }
     ensures { Decides result (GoodTerm most variables terms.now i) }
 {
-    let Term {
-        coefficient,
-        literal,
-    } = terms[i];
-    0 < coefficient && coefficient <= most && literal.variable < variables && !repeats(terms, i)
+    let coefficient = terms[i].coefficient;
+    0 < coefficient && coefficient <= most && stands_alone(terms, i, variables)
 }
 
 // The first term that is not good.
 pub fn bad_term(terms: &[Term], variables: usize, most: u32) -> Option<usize>
     ensures { MatchOption result (Every (GoodTerm most variables terms.now) (length terms.now)) (λ i. FirstBad (GoodTerm most variables terms.now) (length terms.now) i) }
 {
-    for i in 0..terms.len() {
-        if !is_good(terms, i, variables, most) {
-            return Some(i);
-        }
-    }
-    None
+    (0..terms.len()).find(
+        |&i|
+            requires { i < length terms.now }
+        { !is_good(terms, i, variables, most) },
+    )
 }
 
 // The coefficient of a term, negative on the complement.
@@ -88,6 +73,14 @@ pub fn row(terms: &[Term], variables: usize, most: u32) -> [i32; 80]
         row[term.literal.variable] = signed_coefficient(*term);
     }
     row
+}
+
+// Whether the marks of so many variables break the rule.
+fn breaks(rule: &Rule, variables: usize, marks: &[Mark; 80]) -> bool
+    requires { variables ≤ 80 }
+    ensures { Decides result (BreaksRule variables rule.now (marked marks.now)) }
+{
+    sum_left(&rule.coefficients, marks, variables) < u64::from(rule.degree)
 }
 
 impl Store {
@@ -133,25 +126,14 @@ impl Store {
         Ok(self.rules[k])
     }
 
-    // Whether the marks break rule k.
-    fn breaks(&self, k: usize, marks: &[Mark; 80]) -> bool
-        requires { k < self.now.count }
-        ensures { Decides result (BreaksRule self.now.variables (slice_index_or self.now.rules k blank) (marked marks.now)) }
-    {
-        let rule = &self.rules[k];
-        sum_left(&rule.coefficients, marks, self.variables) < u64::from(rule.degree)
-    }
-
     // The first rule that the marks break.
     pub fn first_broken(&self, marks: &[Mark; 80]) -> Option<usize>
         ensures { FirstBroken (held_in self.now) marks.now result }
     {
-        for k in 0..self.count {
-            if self.breaks(k, marks) {
-                return Some(k);
-            }
-        }
-        None
+        let variables = self.variables;
+        self.rules[..self.count]
+            .iter()
+            .position(|rule| breaks(rule, variables, marks))
     }
 
     // Lifts the degree of rule k.
