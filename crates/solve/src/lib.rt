@@ -42,7 +42,7 @@ impl Terms {
     pub fn as_slice(&self) -> &[Term]
         ensures { result.now ≡ listed self.now }
     {
-        &self.terms[0..self.count]
+        &self.terms[..self.count]
     }
 }
 
@@ -70,9 +70,7 @@ pub fn load<H: RuleHolder, E: Engine>(holder: &H, engine: &mut E) -> Result<(), 
     for k in 0..holder.rules() {
         let rule = holder.rule(k)?;
         let terms = terms_of(&rule.coefficients);
-        if let Err(fault) = engine.add(terms.as_slice(), rule.degree) {
-            return Err(fault);
-        }
+        engine.add(terms.as_slice(), rule.degree)?;
     }
     Ok(())
 }
@@ -86,8 +84,5 @@ pub fn solve<H: RuleHolder, E: Engine>(
     ensures { Solves H.RuleHolder.limits E.Engine.pledge (H.RuleHolder.held holder.now) allowance result }
 {
     load(holder, engine)?;
-    match ask(engine, &[], allowance) {
-        Ok(asked) => Ok(asked),
-        Err(fault) => Err(fault),
-    }
+    ask(engine, &[], allowance)
 }
