@@ -1,4 +1,4 @@
-use Rattle.std.proofs.Common.{◌≡◌, refl, ap, ◌∙◌, arith}
+use Rattle.std.proofs.Common.{refl, ap, ◌∙◌, arith}
 use Rattle.engine.specs.Questions.{posed}
 use Rattle.store.specs.Assumes.{assumed_in}
 use Rattle.backtrack.specs.Walk.{left}

@@ -2,7 +2,7 @@ use Rattle.std.proofs.Common.{Some, None, sym, refl, subst}
 use Rattle.engine.specs.Questions.{none, Answered}
 use Rattle.engine.specs.declared.answer.Answer.TheVariants.{Going}
 use Rattle.store.specs.View.{held_in}
-use Rattle.plain.specs.Steps.{question_of, asked_by}
+use Rattle.plain.specs.Steps.{question_of}
 use Rattle.plain.specs.Keeping.{ready, fields_open}
 use Rattle.plain.specs.Stepping.{ready_after, answered, closed}
 use Rattle.plain.proofs.calls.PlainEngine.step.Goals as goal
