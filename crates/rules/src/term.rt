@@ -5,14 +5,14 @@
 pub const WIDTH: usize = 80;
 
 // A variable, or its complement where `negated` is true.
-#[derive(Clone, Copy, PartialEq, Eq, Debug)]
+#[derive(Clone, Copy, PartialEq, Eq, Debug, Default)]
 pub struct Literal {
     pub variable: usize,
     pub negated: bool,
 }
 
 // A literal and how much it gives where it is true.
-#[derive(Clone, Copy, PartialEq, Eq, Debug)]
+#[derive(Clone, Copy, PartialEq, Eq, Debug, Default)]
 pub struct Term {
     pub coefficient: u32,
     pub literal: Literal,
@@ -20,7 +20,7 @@ pub struct Term {
 
 // The coefficients of the true literals together are at least the degree. Each variable has one coefficient: negative
 // where the rule's literal is the complement, 0 where the rule has no term with that variable.
-#[derive(Clone, Copy, PartialEq, Eq, Debug)]
+#[derive(Clone, Copy, PartialEq, Eq, Debug, Default)]
 pub struct Rule {
     pub coefficients: [i32; 80],
     pub degree: u32,
