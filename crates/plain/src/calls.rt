@@ -98,7 +98,7 @@ impl RuleHolder for Plain {
     }
 
     fn rules(&self) -> usize {
-        self.store.count
+        self.store.rules.len()
     }
 
     fn rule(&self, k: usize) -> Result<Rule, EngineFault> {

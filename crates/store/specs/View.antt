@@ -1,5 +1,5 @@
 -- What a store of rules means.
-use Rattle.std.specs.Prelude.{◌≡◌, ℕ, List, take, Ok, Err, Result}
+use Rattle.std.specs.Prelude.{◌≡◌, ℕ, List, Ok, Err, Result}
 use Rattle.faults.specs.declared.fault.EngineFault.{EngineFault}
 use Rattle.faults.specs.declared.fault.EngineFault.TheVariants.{Rule}
 use Rattle.rules.specs.declared.term.Term.{Term as Pair}
@@ -8,9 +8,9 @@ use Rattle.engine.specs.Questions.{engine_limits, CanRaise, with_raised}
 use Rattle.store.specs.declared.keep.Store.{Store}
 use Rattle.store.specs.Stands.{StandsBefore}
 
--- its variables, and the rules up to its count
+-- its variables and its rules
 abbrev pub held_in : Store → Held
-held_in s = record { variables = s.variables; rules = take s.count s.rules }
+held_in s = record { variables = s.variables; rules = s.rules.items }
 
 -- the degree of rule k is lifted, or number 16
 abbrev pub Raises : ℕ → ℕ → Held → Result Unit EngineFault → Held → Type 0

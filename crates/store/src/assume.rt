@@ -6,14 +6,10 @@ ghost use Rattle.store.specs.Assumes.{assumed_in, Takes};
 
 use super::assumed::Assumed;
 use super::stands::stands_alone;
+use arrayvec::ArrayVec;
 use faults::fault::EngineFault;
 use rules::Mark;
 use rules::term::{Literal, WIDTH};
-
-const NO_LITERAL: Literal = Literal {
-    variable: 0,
-    negated: false,
-};
 
 // The first literal that is of none of the variables, or of one before it.
 fn bad_literal(literals: &[Literal], variables: usize) -> Option<usize>
@@ -32,8 +28,7 @@ impl Assumed {
         ensures { assumed_in result ≡ [] }
     {
         Assumed {
-            count: 0,
-            literals: [NO_LITERAL; WIDTH],
+            literals: ArrayVec::new(),
             marks: [Mark::Free; WIDTH],
         }
     }
@@ -46,15 +41,12 @@ impl Assumed {
         if let Some(i) = bad_literal(literals, variables) {
             return Err(EngineFault::Term(i));
         }
-        let mut chosen = [NO_LITERAL; WIDTH];
         let mut marks = [Mark::Free; WIDTH];
-        for i in 0..literals.len() {
-            chosen[i] = literals[i];
-            marks[literals[i].variable] = literals[i].true_mark();
+        for literal in literals {
+            marks[literal.variable] = literal.true_mark();
         }
         Ok(Assumed {
-            count: literals.len(),
-            literals: chosen,
+            literals: ArrayVec::try_from(literals).unwrap(),
             marks,
         })
     }

@@ -1,5 +1,4 @@
-// The rules of an engine: what both engines do alike. Rows past the count hold what is left from earlier rules, and say
-// nothing.
+// The rules of an engine: what both engines do alike.
 #![tactic(auto)]
 
 ghost use Rattle.std.specs.Prelude.{◌≡◌, ℕ, ◌+◌, ◌<◌, ◌≤◌, min, false, length, is_ok, Decides, Result as Outcome, MatchOption, slice_index_or};
@@ -15,6 +14,7 @@ pub mod assumed;
 pub mod keep;
 mod stands;
 
+use arrayvec::ArrayVec;
 use faults::fault::EngineFault;
 use keep::Store;
 use rules::Mark;
@@ -90,11 +90,7 @@ impl Store {
     {
         Store {
             variables: 0,
-            count: 0,
-            rules: [Rule {
-                coefficients: [0; WIDTH],
-                degree: 0,
-            }; ROOM],
+            rules: ArrayVec::new(),
         }
     }
 
@@ -104,7 +100,7 @@ impl Store {
         ensures { held_in self.new ≡ empty variables }
     {
         self.variables = variables;
-        self.count = 0;
+        self.rules.clear();
     }
 
     // So many variables in all, which are no fewer than before.
@@ -120,10 +116,7 @@ impl Store {
     pub fn rule(&self, k: usize) -> Result<Rule, EngineFault>
         ensures { Copied (held_in self.now) k result }
     {
-        if k >= self.count {
-            return Err(EngineFault::Rule(k));
-        }
-        Ok(self.rules[k])
+        self.rules.get(k).copied().ok_or(EngineFault::Rule(k))
     }
 
     // The first rule that the marks break.
@@ -131,7 +124,7 @@ impl Store {
         ensures { FirstBroken (held_in self.now) marks.now result }
     {
         let variables = self.variables;
-        self.rules[..self.count]
+        self.rules
             .iter()
             .position(|rule| breaks(rule, variables, marks))
     }
@@ -141,7 +134,7 @@ impl Store {
         ensures raised { Raises k degree (held_in self.old) result (held_in self.new) }
         ensures refused { is_ok result ≡ false → self.new ≡ self.old }
     {
-        if k >= self.count || degree < self.rules[k].degree || MOST < degree {
+        if k >= self.rules.len() || degree < self.rules[k].degree || MOST < degree {
             return Err(EngineFault::Rule(k));
         }
         self.rules[k].degree = degree;
@@ -153,7 +146,7 @@ impl Store {
         ensures added { Added engine_limits (held_in self.old) terms.now degree result (held_in self.new) }
         ensures refused { is_ok result ≡ false → self.new ≡ self.old }
     {
-        if self.count >= ROOM {
+        if self.rules.is_full() {
             return Err(EngineFault::Full(ROOM));
         }
         if let Some(i) = bad_term(terms, self.variables, MOST) {
@@ -162,11 +155,11 @@ impl Store {
         if MOST < degree {
             return Err(EngineFault::Term(terms.len()));
         }
-        self.rules[self.count] = Rule {
-            coefficients: row(terms, self.variables, MOST),
+        let coefficients = row(terms, self.variables, MOST);
+        self.rules.push(Rule {
+            coefficients,
             degree,
-        };
-        self.count += 1;
+        });
         Ok(())
     }
 }

@@ -136,12 +136,8 @@ impl<E: Engine> Engine for Twice<E> {
             (answer, Round::Second) => Ok(answer),
             (_, Round::First) => {
                 self.round = Round::Second;
-                let Assumed {
-                    literals,
-                    count,
-                    ..
-                } = self.assumed;
-                self.inner.pose(&literals[..count])?;
+                let assumed = &self.assumed;
+                self.inner.pose(&assumed.literals)?;
                 Ok(Answer::Going)
             }
         }

@@ -16,7 +16,7 @@ pub loop-k-preserved : goal.loop-k-preserved
 loop-k-preserved g c =
     let rule = c.in_ok-rule.rule in
     let ts = c.as_slice.result.now in
-    let lists : Lists rule.coefficients ts = subst (Lists rule.coefficients) (sym c.as_slice.ensures) c.terms_of-terms.ensures in
+    let lists : Lists rule.coefficients ts = subst (Lists rule.coefficients) (sym c.as_slice.ensures.value) c.terms_of-terms.ensures in
     let adds = c.in_ok-add.ensures.adds in (
       one_more_rule (g.H.RuleHolder.held c.args.holder.now) (g.E.RuleHolder.held c.loop-k.engine) (g.E.RuleHolder.held c.add.new.self) c.loop-k.k rule ts
           c.loop-k.invariant.0 c.in_ok-rule.ensures.1 lists c.in_ok-add.ensures.added.1,
@@ -39,7 +39,7 @@ returns-in_err-add g c =
     let h = g.H.RuleHolder.held c.args.holder.now in
     let h' = g.E.RuleHolder.held c.loop-k.engine in
     let k = c.loop-k.k in
-    let lists : Lists rule.coefficients ts = subst (Lists rule.coefficients) (sym c.as_slice.ensures) c.terms_of-terms.ensures in
+    let lists : Lists rule.coefficients ts = subst (Lists rule.coefficients) (sym c.as_slice.ensures.value) c.terms_of-terms.ensures in
     let copied = c.in_ok-rule.ensures in
     let refused = subst (λ l. NotAdded l h' ts rule.degree c.in_err-add.field-0.0) g.met.E.Engine.limits c.in_err-add.ensures.added.0 in
     record {
