@@ -26,16 +26,19 @@ pub fn ask<E: Engine>(
     ensures kept { E.Engine.sound engine.old → E.Engine.sound engine.new }
 {
     engine.pose(assumed)?;
-    let mut steps = 0;
-    while steps < allowance {
-        steps += 1;
+    for before in 0..allowance {
         match engine.step()? {
             Answer::Going => {}
-            answer => return Ok(Asked { answer, steps }),
+            answer => {
+                return Ok(Asked {
+                    answer,
+                    steps: before + 1,
+                });
+            }
         }
     }
     Ok(Asked {
         answer: Answer::Going,
-        steps,
+        steps: allowance,
     })
 }

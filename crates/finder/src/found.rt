@@ -1,4 +1,5 @@
-// What a search for a board comes to.
+// What a search for a board comes to: three outcomes, and none of them is an error, so each has its own name and no
+// `Result` of an `Option` stands for them.
 use board::Board;
 
 #[derive(Clone, Copy)]

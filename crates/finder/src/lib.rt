@@ -15,17 +15,15 @@ use found::{Finding, Found};
 use ledger::state::Sheet;
 use rules::Mark;
 use solve::solve;
-use table::PARTS;
+use std::array;
 
 // The marks of the parts.
 fn board_of(marks: &[Mark; 80]) -> Board
     ensures { (i : ℕ) → i < 40 → marked result.marks i ≡ marked marks.now i }
 {
-    let mut parts = [Mark::Free; PARTS];
-    for i in 0..PARTS {
-        parts[i] = marks[i];
+    Board {
+        marks: array::from_fn(|part| marks[part]),
     }
-    Board { marks: parts }
 }
 
 // A board that meets the sheet, or that there is none, in at most `allowance` steps of the engine.

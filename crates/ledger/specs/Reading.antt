@@ -1,17 +1,17 @@
 -- What the rules of a table are, by place; that they are within the limits; and that they say what the table says.
-use Rattle.std.specs.Prelude.{◌≡◌, ℕ, zero, suc, ◌+◌, ◌-◌, ◌*◌, ◌<◌, ◌≤◌, Bool, true, false, ◌&&◌, List, length, replicate, ℤ, pos, negsuc, nat_lt, refl}
+use Rattle.std.specs.Prelude.{◌≡◌, ℕ, zero, suc, ◌+◌, ◌-◌, ◌*◌, ◌<◌, ◌≤◌, Bool, true, false, ◌&&◌, List, length, replicate, ℤ, pos, negsuc, Option, Some, None, MatchOption, nat_lt, refl}
 use Rattle.std.proofs.Common.{sym, ap, subst, ◌∙◌, inl, inr, arith}
 use Rattle.std.proofs.lemmas.List.FromFn.{length-map-range_with_len, get_or-map-range_with_len, fill_by_all}
 use Rattle.std.proofs.lemmas.List.{get_or_past}
 use Rattle.std.proofs.lemmas.Int.{ints}
 use Rattle.std.proofs.lemmas.Bool.{cases_lt, cond-true, cond-false, lt-ltb, le-ltb, and_right}
 use Rattle.rules.specs.Sum.{total}
-use Rattle.rules.specs.Rule.{at, size, kept, open_sum}
+use Rattle.rules.specs.Rule.{at, marked, size, kept, open_sum}
 use Rattle.rules.specs.declared.Mark.{Mark}
 use Rattle.rules.specs.declared.Mark.TheVariants.{Free, Zero, One}
 use Rattle.rules.specs.declared.term.Rule.{Rule as Row}
 use Rattle.rules.proofs.Sum.{total_same}
-use Rattle.engine.specs.Held.{Fits, nth, blank, MeetsRule, BreaksRule, NoneBroken}
+use Rattle.engine.specs.Held.{Fits, nth, blank, MeetsRule, BreaksRule, NoneBroken, FirstBroken}
 use Rattle.table.specs.declared.place.Place.{Place}
 use Rattle.table.specs.Layout.{parts_of, rules_of, coefficient, declared, stated, range, used, limits_of, Within, Fine}
 use Rattle.table.specs.Meaning.{chosen}
@@ -67,6 +67,15 @@ broken_held T k m l = subst (λ (r : Row). BreaksRule (parts_of T) r m) (sym (nt
 pub none_held : (T : List ℤ) (i : ℕ) (m : ℕ → Mark) → i ≤ rules_of T
     → ((k : ℕ) → k < i → BreaksRule (parts_of T) (rule_at T k) m → ⊥) → NoneBroken (held_by T) i m
 none_held T i m l h k b x = h k b (subst (λ (r : Row). BreaksRule (parts_of T) r m) (nth_held T k (omega arith)) x)
+
+-- the first row that is broken is the first rule that is
+pub first_found : (T : List ℤ) (n : ℕ) (ms : List Mark) (r : Option ℕ) → n ≡ rules_of T
+    → MatchOption r ((k : ℕ) → 0 ≤ k → k < n → BreaksRule (parts_of T) (rule_at T k) (marked ms) → ⊥)
+    (λ i. (0 ≤ i) × (i < n) × BreaksRule (parts_of T) (rule_at T i) (marked ms) × ((k : ℕ) → 0 ≤ k → k < i → BreaksRule (parts_of T) (rule_at T k) (marked ms) → ⊥))
+    → FirstBroken (held_by T) ms r
+first_found T n ms None is h = λ k l. none_held T (rules_of T) (marked ms) (omega arith) (λ j b. h j (omega arith) (omega arith)) k (omega (arith, count_held T))
+first_found T n ms (Some i) is h =
+    (omega (arith, count_held T, h.1), broken_held T i (marked ms) (omega (arith, h.1)) h.2, none_held T i (marked ms) (omega (arith, h.1)) (λ j b. h.3 j (omega arith) b))
 
 -- ---- limits
 unused : (b : Bool) (lo hi v : ℤ) → b ≡ false → Within (used b (range lo hi)) v → v ≡ pos 0

@@ -1,4 +1,5 @@
 // The sheet as a holder of rules.
+ghost use Rattle.std.specs.Prelude.{◌<◌};
 ghost use Rattle.ledger.specs.View.{held_by, sheet_limits};
 ghost use Rattle.ledger.specs.Taking.{Adds};
 ghost use Rattle.ledger.specs.Reading.{held_few, held_room, held_fits};
@@ -67,11 +68,10 @@ impl RuleHolder for Sheet {
 
     fn first_broken(&self, marks: &[Mark; 80]) -> Option<usize> {
         let table = self.checked();
-        for k in 0..table.rules() {
-            if breaks(&table, k, marks) {
-                return Some(k);
-            }
-        }
-        None
+        (0..table.rules()).find(
+            |&k|
+                requires { k < 64 }
+            { breaks(&table, k, marks) },
+        )
     }
 }

@@ -3,26 +3,35 @@ ghost use Rattle.std.specs.Prelude.{◌≡◌, ◌<◌, ◌≤◌, length, Decid
 ghost use Rattle.rules.specs.Rule.{marked};
 ghost use Rattle.engine.specs.Held.{BreaksRule};
 ghost use Rattle.table.specs.Layout.{parts_of};
-ghost use Rattle.ledger.specs.View.{rule_at};
+ghost use Rattle.ledger.specs.View.{coefficient_at, rule_at};
 ghost use Rattle.ledger.specs.Taking.{Written};
 
 use rules::Mark;
 use rules::reach::sum_left;
-use rules::term::{Rule, WIDTH};
+use rules::term::Rule;
+use std::array;
 use table::checked::Checked;
 use table::{PARTS, ROW, RULES};
+
+// The coefficient of a variable in the row of this index: 0 past the parts.
+fn coefficient_at(table: &Checked, k: usize, variable: usize) -> i32
+    requires { k < 64 }
+    ensures { result ≡ coefficient_at table.now.words.now k variable }
+{
+    if variable < PARTS {
+        table.coefficient(k, variable)
+    } else {
+        0
+    }
+}
 
 // The row of this index as a rule.
 pub fn rule_at(table: &Checked, k: usize) -> Rule
     requires { k < 64 }
     ensures { result ≡ rule_at table.now.words.now k }
 {
-    let mut coefficients = [0; WIDTH];
-    for part in 0..PARTS {
-        coefficients[part] = table.coefficient(k, part);
-    }
     Rule {
-        coefficients,
+        coefficients: array::from_fn(|part| coefficient_at(table, k, part)),
         degree: table.degree(k),
     }
 }
@@ -37,15 +46,13 @@ pub fn breaks(table: &Checked, k: usize, marks: &[Mark; 80]) -> bool
 }
 
 // Writes a rule into the row of this index.
-pub fn write_row(words: &mut [i32], k: usize, degree: u32, row: &[i32; 80])
-    requires whole { length words.old ≡ 2668 }
+pub fn write_row(words: &mut [i32; 2668], k: usize, degree: u32, row: &[i32; 80])
     requires there { k < 64 }
     requires small { degree ≤ 140000000 }
-    ensures { Written words.old k degree row.now words.new }
+    ensures whole { length words.new ≡ 2668 }
+    ensures written { Written words.old k degree row.now words.new }
 {
     let start = RULES + ROW * k;
     words[start] = degree as i32;
-    for part in 0..PARTS {
-        words[start + (1 + part)] = row[part];
-    }
+    words[start + 1..start + ROW].copy_from_slice(&row[..PARTS]);
 }

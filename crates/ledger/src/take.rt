@@ -14,14 +14,10 @@ impl Sheet {
     pub fn from_table(table: &[i32]) -> Result<Sheet, RunFault>
         ensures { Taken table.now result }
     {
-        match check(table) {
-            Ok(()) => {
-                let mut words = [0; WORDS];
-                words.copy_from_slice(table);
-                Ok(Sheet { words })
-            }
-            Err(fault) => Err(fault),
-        }
+        check(table)?;
+        let mut words = [0; WORDS];
+        words.copy_from_slice(table);
+        Ok(Sheet { words })
     }
 
     // The words of the table. A choice of parts meets them exactly where it meets every rule that the sheet holds.

@@ -1,43 +1,39 @@
 -- What a step of the plain engine comes to.
-use Rattle.std.specs.Prelude.{◌≡◌, ℕ, ◌+◌, ◌^◌, ◌<◌, ◌≤◌, Bool, true, false, cond, List, length, Some, None, ◌≢◌, refl}
+use Rattle.std.specs.Prelude.{◌≡◌, ℕ, ◌^◌, ◌<◌, ◌≤◌, ◌⊎◌, List, length, Some, None, Option, ◌≢◌, refl}
+use Rattle.std.specs.Option.{ForSome}
 use Rattle.std.proofs.Common.{sym, ap, subst, ◌∙◌, inl, inr, arith}
 use Rattle.rules.specs.Rule.{marked}
-use Rattle.rules.specs.Terms.{coefficient, only}
+use Rattle.rules.specs.Terms.{only}
 use Rattle.rules.specs.declared.Mark.{Mark}
 use Rattle.rules.specs.declared.Mark.TheVariants.{Free, Zero, One}
 use Rattle.rules.specs.declared.term.Literal.{Literal}
-use Rattle.rules.specs.declared.term.Rule.{Rule as Row}
-use Rattle.engine.specs.Questions.{none, posed, WithinPledge, GoodLiteral, Answered}
+use Rattle.engine.specs.Questions.{posed, WithinPledge, GoodLiteral, Solution, Answered}
 use Rattle.engine.specs.Held.{Every}
+use Rattle.engine.specs.declared.answer.Answer.{Answer}
 use Rattle.engine.specs.declared.answer.Answer.TheVariants.{Going, Yes, No}
 use Rattle.store.specs.View.{held_in}
 use Rattle.store.specs.Assumes.{assumed_in}
 use Rattle.store.specs.declared.keep.Store.{Store}
 use Rattle.store.specs.declared.assumed.Assumed.{Assumed}
 use Rattle.store.proofs.Distinct.{only_free}
-use Rattle.backtrack.specs.Walk.{Path, Exhausted, Dead, LastZero, NoZero, deeper, turned, left}
+use Rattle.backtrack.specs.Walk.{Path, Exhausted, Dead, LastZero, NoZero, left}
 use Rattle.backtrack.specs.Clause.{refuted}
 use Rattle.backtrack.proofs.Passing.{exhausted_start, exhausted_deeper, exhausted_turned, none_left, path_start, path_deeper, path_turned}
 use Rattle.backtrack.proofs.Left.{left_deeper, left_turned, left_within}
 use Rattle.backtrack.proofs.Ends.{dead_by_rule, dead_by_literal, solution_here, clause_refutes}
-use Rattle.plain.specs.Marks.{ZeroFound}
-use Rattle.plain.specs.Ready.{Ready, at_walk, question_of}
-use Rattle.plain.specs.Steps.{BrokenNow, Unbroken, asked_by}
+use Rattle.plain.specs.Ready.{Ready, at_walk}
+use Rattle.plain.specs.Steps.{BrokenNow, Deepened, Turned, Searched, After, question_of, asked_by}
 use Rattle.plain.specs.declared.walk.Walk.{Walk}
+use Rattle.plain.specs.declared.search.Search.{Search}
 use Rattle.plain.specs.declared.state.Plain.{Plain}
-use Rattle.plain.specs.Keeping.{ready}
 
 -- ---- questions
--- an open question is the posed one
-is_posed : (s : Store) (b : Bool) (a : Assumed) (w : Walk) → b ≡ true → question_of s b a w ≡ posed (assumed_in a) (left s.variables (at_walk w) w.depth)
-is_posed s b a w t = ap (λ x. cond x (posed (assumed_in a) (left s.variables (at_walk w) w.depth)) none) t
-
-within_when : (b : Bool) (ls : List Literal) (l Q : ℕ) → (b ≡ true → (0 < l) × (l ≤ Q)) → WithinPledge Q (cond b (posed ls l) none)
-within_when true ls l Q h = h refl
-within_when false ls l Q h = tt
+within_open : (s : Store) (o : Option Search) → ForSome o (λ x. x.walk.depth ≤ s.variables) → WithinPledge (2 ^ 81) (question_of s o)
+within_open s None deep = tt
+within_open s (Some x) deep = left_within s.variables (at_walk x.walk) x.walk.depth (deep x refl) s.few
 
 pub within : (p : Plain) → WithinPledge (2 ^ 81) (asked_by p)
-within p = within_when p.asking (assumed_in p.assumed) _ (2 ^ 81) (λ t. left_within p.store.variables (at_walk p.walk) p.walk.depth (p.deep t) p.store.few)
+within p = within_open p.store p.asking p.deep
 
 -- ---- a question that was just posed
 pub ready_start : (s : Store) (a : Assumed) (w : Walk) (ls : List Literal) → Every (GoodLiteral s.variables ls) (length ls) → assumed_in a ≡ ls
@@ -55,105 +51,98 @@ other_is_one Zero f z = absurd (z refl)
 other_is_one One f z = refl
 
 -- ---- steps
-module _ (p : Plain) (asks : p.asking ≡ true) where
-  dead : BrokenNow p → Dead (held_in p.store) (assumed_in p.assumed) (at_walk p.walk)
+module _ (s : Store) (x : Search) (r : Ready s x.assumed x.walk) where
+  dead : BrokenNow s x → Dead (held_in s) (assumed_in x.assumed) (at_walk x.walk)
   dead b = elim b [
-    | inl l ↦ dead_by_literal (held_in p.store) (assumed_in p.assumed) (at_walk p.walk) l.variable l.opposes
-    | inr r ↦ dead_by_rule (held_in p.store) (assumed_in p.assumed) (at_walk p.walk) r.rule r.there r.breaks
+    | inl l ↦ dead_by_literal (held_in s) (assumed_in x.assumed) (at_walk x.walk) l.variable l.opposes
+    | inr k ↦ dead_by_rule (held_in s) (assumed_in x.assumed) (at_walk x.walk) k.rule k.there k.breaks
   ]
 
-  last_zero : (t : ℕ) → ZeroFound (at_walk p.walk) p.walk.depth (Some t) → LastZero (at_walk p.walk) p.walk.depth t
-  last_zero t found = record {
-    below = found.0;
-    zero = found.1;
-    later = λ j l b. other_is_one (at_walk p.walk j) (p.marked asks j b) (found.2 j l b);
+  no_zero : ((j : ℕ) → j < x.walk.depth → at_walk x.walk j ≢ Zero) → NoZero (at_walk x.walk) x.walk.depth
+  no_zero found j b = other_is_one (at_walk x.walk j) (r.path.marked j b) (found j b)
+
+  module _ (y : Search) (same : y.assumed ≡ x.assumed) where
+    -- the last 0 is turned
+    module _ (t : Turned s x y) where
+      last_zero : LastZero (at_walk x.walk) x.walk.depth t.at
+      last_zero = record {
+        below = t.within;
+        zero = t.was;
+        later = λ j l b. other_is_one (at_walk x.walk j) (r.path.marked j b) (t.last j l b);
+      }
+
+      ready_turned : Ready s x.assumed y.walk
+      ready_turned = record {
+        path = subst (Path s.variables (at_walk y.walk)) (sym t.depth) (path_turned s.variables (at_walk x.walk) (at_walk y.walk) x.walk.depth t.at t.within t.marks r.path);
+        beyond = r.beyond;
+        exhausted = subst (Exhausted (held_in s) (assumed_in x.assumed) (at_walk y.walk)) (sym t.depth)
+            (exhausted_turned (held_in s) (assumed_in x.assumed) s.variables (at_walk x.walk) (at_walk y.walk) x.walk.depth t.at r.path refl last_zero (dead t.broken) t.marks r.exhausted);
+      }
+
+      fewer_turned : left s.variables (at_walk y.walk) y.walk.depth < left s.variables (at_walk x.walk) x.walk.depth
+      fewer_turned =
+          subst (λ d. left s.variables (at_walk y.walk) d < left s.variables (at_walk x.walk) x.walk.depth) (sym t.depth)
+          (left_turned s.variables (at_walk x.walk) (at_walk y.walk) x.walk.depth t.at t.within t.was t.marks)
+
+    -- the next variable gets 0
+    module _ (d : Deepened s x y) where
+      ready_deeper : Ready s x.assumed y.walk
+      ready_deeper = record {
+        path = subst (Path s.variables (at_walk y.walk)) (sym d.depth) (path_deeper s.variables (at_walk x.walk) (at_walk y.walk) x.walk.depth d.room d.marks r.path);
+        beyond = r.beyond;
+        exhausted = subst (Exhausted (held_in s) (assumed_in x.assumed) (at_walk y.walk)) (sym d.depth)
+            (exhausted_deeper (held_in s) (assumed_in x.assumed) (at_walk x.walk) (at_walk y.walk) x.walk.depth d.marks r.exhausted);
+      }
+
+      fewer_deeper : left s.variables (at_walk y.walk) y.walk.depth < left s.variables (at_walk x.walk) x.walk.depth
+      fewer_deeper =
+          subst (λ k. left s.variables (at_walk y.walk) k < left s.variables (at_walk x.walk) x.walk.depth) (sym d.depth)
+          (omega (arith, left_deeper s.variables (at_walk x.walk) (at_walk y.walk) x.walk.depth d.room d.marks))
+
+    ready_moved : Deepened s x y ⊎ Turned s x y → Ready s x.assumed y.walk
+    ready_moved = elim [ inl d ↦ ready_deeper d | inr t ↦ ready_turned t ]
+
+    fewer : Deepened s x y ⊎ Turned s x y → left s.variables (at_walk y.walk) y.walk.depth < left s.variables (at_walk x.walk) x.walk.depth
+    fewer = elim [ inl d ↦ fewer_deeper d | inr t ↦ fewer_turned t ]
+
+  -- a search that goes on is as ready as it was
+  pub ready_after : (y : Search) → Searched s x Going y → Ready s y.assumed y.walk
+  ready_after y m = subst (λ a. Ready s a y.walk) (sym m.0) (ready_moved y m.0 m.1)
+
+  -- each answer is true, and leaves fewer steps
+  pub answered : (a : Answer) (y : Search) (o : Option Search) → Searched s x a y → After a y o → Answered (held_in s) (question_of s (Some x)) a (question_of s o)
+  answered Going y o m is = record {
+    assumed = assumed_in x.assumed;
+    left = left s.variables (at_walk x.walk) x.walk.depth;
+    was = refl;
+    leaves = (
+      left s.variables (at_walk y.walk) y.walk.depth,
+      (left_within s.variables (at_walk y.walk) y.walk.depth (ready_moved y m.0 m.1).path.deep s.few).0,
+      fewer y m.0 m.1,
+      ap (question_of s) is ∙ ap (λ a. posed (assumed_in a) (left s.variables (at_walk y.walk) y.walk.depth)) m.0,
+    );
+    says = tt;
   }
-
-  no_zero : ZeroFound (at_walk p.walk) p.walk.depth None → NoZero (at_walk p.walk) p.walk.depth
-  no_zero found j b = other_is_one (at_walk p.walk j) (p.marked asks j b) (found j b)
-
-  -- the last 0 is turned
-  module _ (w : Walk) (t : ℕ) (broken : BrokenNow p) (found : ZeroFound (at_walk p.walk) p.walk.depth (Some t))
-      (is : (i : ℕ) → at_walk w i ≡ turned (at_walk p.walk) t i) (deep : w.depth ≡ t + 1) where
-    pub ready_turned : Ready p.store p.assumed w
-    ready_turned =
-        let r = ready p asks in
-        record {
-          path = subst (Path p.store.variables (at_walk w)) (sym deep) (path_turned p.store.variables (at_walk p.walk) (at_walk w) p.walk.depth t found.0 is r.path);
-          beyond = r.beyond;
-          exhausted = subst (Exhausted (held_in p.store) (assumed_in p.assumed) (at_walk w)) (sym deep)
-              (exhausted_turned (held_in p.store) (assumed_in p.assumed) p.store.variables (at_walk p.walk) (at_walk w) p.walk.depth t r.path refl (last_zero t found) (dead broken) is r.exhausted);
-        }
-
-    pub answered_turned : Answered (held_in p.store) (asked_by p) Going (question_of p.store p.asking p.assumed w)
-    answered_turned = record {
-      assumed = assumed_in p.assumed;
-      left = left p.store.variables (at_walk p.walk) p.walk.depth;
-      was = is_posed p.store p.asking p.assumed p.walk asks;
-      leaves = (
-        left p.store.variables (at_walk w) w.depth,
-        (left_within p.store.variables (at_walk w) w.depth ready_turned.path.deep p.store.few).0,
-        subst (λ d. left p.store.variables (at_walk w) d < left p.store.variables (at_walk p.walk) p.walk.depth) (sym deep)
-            (left_turned p.store.variables (at_walk p.walk) (at_walk w) p.walk.depth t found.0 found.1 is),
-        is_posed p.store p.asking p.assumed w asks,
-      );
-      says = tt;
-    }
-
-  -- the next variable gets 0
-  module _ (w : Walk) (room : p.walk.depth < p.store.variables) (is : (i : ℕ) → at_walk w i ≡ deeper (at_walk p.walk) p.walk.depth i)
-      (deep : w.depth ≡ p.walk.depth + 1) where
-    pub ready_deeper : Ready p.store p.assumed w
-    ready_deeper =
-        let r = ready p asks in
-        record {
-          path = subst (Path p.store.variables (at_walk w)) (sym deep) (path_deeper p.store.variables (at_walk p.walk) (at_walk w) p.walk.depth room is r.path);
-          beyond = r.beyond;
-          exhausted = subst (Exhausted (held_in p.store) (assumed_in p.assumed) (at_walk w)) (sym deep)
-              (exhausted_deeper (held_in p.store) (assumed_in p.assumed) (at_walk p.walk) (at_walk w) p.walk.depth is r.exhausted);
-        }
-
-    fewer : left p.store.variables (at_walk w) w.depth < left p.store.variables (at_walk p.walk) p.walk.depth
-    fewer =
-        subst (λ d. left p.store.variables (at_walk w) d < left p.store.variables (at_walk p.walk) p.walk.depth) (sym deep)
-        (omega (arith, left_deeper p.store.variables (at_walk p.walk) (at_walk w) p.walk.depth room is))
-
-    pub answered_deeper : Answered (held_in p.store) (asked_by p) Going (question_of p.store p.asking p.assumed w)
-    answered_deeper = record {
-      assumed = assumed_in p.assumed;
-      left = left p.store.variables (at_walk p.walk) p.walk.depth;
-      was = is_posed p.store p.asking p.assumed p.walk asks;
-      leaves = (
-        left p.store.variables (at_walk w) w.depth,
-        (left_within p.store.variables (at_walk w) w.depth ready_deeper.path.deep p.store.few).0,
-        fewer,
-        is_posed p.store p.asking p.assumed w asks,
-      );
-      says = tt;
-    }
-
-  -- nothing is broken, and every variable is marked
-  pub answered_yes : Unbroken p → p.store.variables ≤ p.walk.depth → Answered (held_in p.store) (asked_by p) (Yes p.walk.marks) none
-  answered_yes whole full = record {
-    assumed = assumed_in p.assumed;
-    left = left p.store.variables (at_walk p.walk) p.walk.depth;
-    was = is_posed p.store p.asking p.assumed p.walk asks;
-    leaves = refl;
+  answered (Yes ms) y o m is = record {
+    assumed = assumed_in x.assumed;
+    left = left s.variables (at_walk x.walk) x.walk.depth;
+    was = refl;
+    leaves = ap (question_of s) is;
+    says = subst (λ v. Solution (held_in s) (assumed_in x.assumed) (marked v)) (sym m.2)
+        (solution_here (held_in s) (assumed_in x.assumed) (at_walk x.walk) x.walk.depth r.path (omega (arith, r.path.deep, m.1)) r.beyond m.0.literals m.0.rules);
+  }
+  answered (No c) y o m is = record {
+    assumed = assumed_in x.assumed;
+    left = left s.variables (at_walk x.walk) x.walk.depth;
+    was = refl;
+    leaves = ap (question_of s) is;
     says =
-        let r = ready p asks in
-        solution_here (held_in p.store) (assumed_in p.assumed) (at_walk p.walk) p.walk.depth r.path (omega (arith, r.path.deep)) r.beyond whole.literals whole.rules;
+        clause_refutes (held_in s) (assumed_in x.assumed) c (λ v. m.0.coefficients v ∙ ap refuted (x.assumed.agrees v)) m.0.degree r.beyond
+        (none_left (held_in s) (assumed_in x.assumed) s.variables (at_walk x.walk) x.walk.depth r.path refl (no_zero m.2) (dead m.1) r.exhausted);
   }
 
-  -- something is broken, and no 0 is left
-  pub answered_no : (r : Row) → ((v : ℕ) → coefficient r v ≡ refuted (marked p.assumed.marks v)) → r.degree ≡ 1 → BrokenNow p
-      → ZeroFound (at_walk p.walk) p.walk.depth None → Answered (held_in p.store) (asked_by p) (No r) none
-  answered_no rule is one broken found = record {
-    assumed = assumed_in p.assumed;
-    left = left p.store.variables (at_walk p.walk) p.walk.depth;
-    was = is_posed p.store p.asking p.assumed p.walk asks;
-    leaves = refl;
-    says =
-        let r = ready p asks in
-        clause_refutes (held_in p.store) (assumed_in p.assumed) rule (λ v. is v ∙ ap refuted (p.assumed.agrees v)) one r.beyond
-        (none_left (held_in p.store) (assumed_in p.assumed) p.store.variables (at_walk p.walk) p.walk.depth r.path refl (no_zero found) (dead broken) r.exhausted);
-  }
+-- an answer that does not go on closes the search
+pub closed : (a : Answer) (y : Search) → (a ≡ Going → ⊥) → After a y None
+closed Going y other = absurd (other refl)
+closed (Yes ms) y other = refl
+closed (No c) y other = refl

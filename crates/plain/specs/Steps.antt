@@ -1,80 +1,101 @@
 -- What the calls of the plain engine do, beyond what every engine's do.
-use Rattle.std.specs.Prelude.{◌≡◌, ℕ, ◌+◌, ◌<◌, ◌≤◌, Bool, true, false, ◌⊎◌, length, Ok, Err, Result, ◌≢◌}
+use Rattle.std.specs.Prelude.{◌≡◌, ℕ, ◌+◌, ◌<◌, ◌≤◌, Bool, true, false, ◌⊎◌, length, Some, None, Option, Ok, Err, Result, ◌≢◌}
 use Rattle.faults.specs.declared.fault.EngineFault.{EngineFault}
-use Rattle.rules.specs.Terms.{only}
+use Rattle.rules.specs.Rule.{marked}
+use Rattle.rules.specs.Terms.{coefficient, only}
+use Rattle.rules.specs.declared.term.Rule.{Rule as Row}
 use Rattle.engine.specs.Held.{nth, BreaksRule, NoneBroken}
 use Rattle.engine.specs.declared.answer.Answer.{Answer}
 use Rattle.engine.specs.declared.answer.Answer.TheVariants.{Going, Yes, No}
 use Rattle.store.specs.View.{held_in}
 use Rattle.store.specs.Assumes.{assumed_in}
-use Rattle.backtrack.specs.Walk.{deeper, turned}
-use Rattle.backtrack.specs.Clause.{opposed}
+use Rattle.store.specs.declared.keep.Store.{Store}
+use Rattle.backtrack.specs.Walk.{deeper, turned, left}
+use Rattle.backtrack.specs.Clause.{opposed, refuted}
 use Rattle.rules.specs.declared.Mark.TheVariants.{Zero}
-use Rattle.engine.specs.Questions.{Question}
-use Rattle.plain.specs.Ready.{at_walk, question_of}
+use Rattle.engine.specs.Questions.{Question, none, posed}
+use Rattle.plain.specs.Ready.{at_walk}
+use Rattle.plain.specs.declared.search.Search.{Search}
 use Rattle.plain.specs.declared.state.Plain.{Plain}
 
--- the question that is open
+-- the question that is open, with a step for each node of the tree that is left
+abbrev pub question_of : Store → Option Search → Question
+question_of s None = none
+question_of s (Some x) = posed (assumed_in x.assumed) (left s.variables (at_walk x.walk) x.walk.depth)
+
 abbrev pub asked_by : Plain → Question
-asked_by s = question_of s.store s.asking s.assumed s.walk
+asked_by s = question_of s.store s.asking
 
 -- nothing has changed
 pub record Same (s t : Plain) : Type 0 where
   pub store : t.store ≡ s.store
   pub asking : t.asking ≡ s.asking
-  pub assumed : t.assumed ≡ s.assumed
-  pub walk : t.walk ≡ s.walk
 
 -- a rule that is added closes the question; a refused one changes nothing
 abbrev pub Adds : Plain → Result Unit EngineFault → Plain → Type 0
-Adds s (Ok _) t = t.asking ≡ false
+Adds s (Ok _) t = t.asking ≡ None
 Adds s (Err e) t = Same s t
 
 -- the marks break an assumed literal, or a rule
-pub record BrokenLiteral (s : Plain) : Type 0 where
+pub record BrokenLiteral (x : Search) : Type 0 where
   pub variable : ℕ
-  pub within : variable < s.walk.depth
-  pub opposes : opposed (only (assumed_in s.assumed) variable) (at_walk s.walk variable) ≡ true
+  pub within : variable < x.walk.depth
+  pub opposes : opposed (only (assumed_in x.assumed) variable) (at_walk x.walk variable) ≡ true
 
-pub record BrokenRule (s : Plain) : Type 0 where
+pub record BrokenRule (s : Store) (x : Search) : Type 0 where
   pub rule : ℕ
-  pub there : rule < length (held_in s.store).rules
-  pub breaks : BreaksRule s.store.variables (nth (held_in s.store).rules rule) (at_walk s.walk)
+  pub there : rule < length (held_in s).rules
+  pub breaks : BreaksRule s.variables (nth (held_in s).rules rule) (at_walk x.walk)
 
-abbrev pub BrokenNow : Plain → Type 0
-BrokenNow s = BrokenLiteral s ⊎ BrokenRule s
+abbrev pub BrokenNow : Store → Search → Type 0
+BrokenNow s x = BrokenLiteral x ⊎ BrokenRule s x
 
 -- no assumed literal is broken, and no rule
-pub record Unbroken (s : Plain) : Type 0 where
-  pub literals : (v : ℕ) → v < s.walk.depth → opposed (only (assumed_in s.assumed) v) (at_walk s.walk v) ≡ false
-  pub rules : NoneBroken (held_in s.store) (length (held_in s.store).rules) (at_walk s.walk)
+pub record Unbroken (s : Store) (x : Search) : Type 0 where
+  pub literals : (v : ℕ) → v < x.walk.depth → opposed (only (assumed_in x.assumed) v) (at_walk x.walk v) ≡ false
+  pub rules : NoneBroken (held_in s) (length (held_in s).rules) (at_walk x.walk)
 
-abbrev pub BrokenHere : Plain → Bool → Type 0
-BrokenHere s true = BrokenNow s
-BrokenHere s false = Unbroken s
+abbrev pub BrokenHere : Store → Search → Bool → Type 0
+BrokenHere s x true = BrokenNow s x
+BrokenHere s x false = Unbroken s x
 
 -- ---- where the search stands after a step
 -- the next variable has 0
-pub record Deepened (s t : Plain) : Type 0 where
-  pub sound : Unbroken s
-  pub room : s.walk.depth < s.store.variables
-  pub marks : (i : ℕ) → at_walk t.walk i ≡ deeper (at_walk s.walk) s.walk.depth i
-  pub depth : t.walk.depth ≡ s.walk.depth + 1
+pub record Deepened (s : Store) (x y : Search) : Type 0 where
+  pub sound : Unbroken s x
+  pub room : x.walk.depth < s.variables
+  pub marks : (i : ℕ) → at_walk y.walk i ≡ deeper (at_walk x.walk) x.walk.depth i
+  pub depth : y.walk.depth ≡ x.walk.depth + 1
 
 -- the last 0 has turned to 1, and the marks after it are cleared
-pub record Turned (s t : Plain) : Type 0 where
-  pub broken : BrokenNow s
+pub record Turned (s : Store) (x y : Search) : Type 0 where
+  pub broken : BrokenNow s x
   pub at : ℕ
-  pub within : at < s.walk.depth
-  pub was : at_walk s.walk at ≡ Zero
-  pub last : (j : ℕ) → at < j → j < s.walk.depth → at_walk s.walk j ≢ Zero
-  pub marks : (i : ℕ) → at_walk t.walk i ≡ turned (at_walk s.walk) at i
-  pub depth : t.walk.depth ≡ at + 1
+  pub within : at < x.walk.depth
+  pub was : at_walk x.walk at ≡ Zero
+  pub last : (j : ℕ) → at < j → j < x.walk.depth → at_walk x.walk j ≢ Zero
+  pub marks : (i : ℕ) → at_walk y.walk i ≡ turned (at_walk x.walk) at i
+  pub depth : y.walk.depth ≡ at + 1
 
--- by the answer: on it goes by one of these; yes gives the marks as they are, all variables being marked; no comes where no 0
--- is left
+-- the clause of all assumed literals' complements
+pub record IsClause (x : Search) (r : Row) : Type 0 where
+  pub coefficients : (v : ℕ) → coefficient r v ≡ refuted (marked x.assumed.marks v)
+  pub degree : r.degree ≡ 1
+
+-- by the answer: on it goes by one of these, and assumes the same; yes gives the marks as they are, all variables being
+-- marked; no comes where no 0 is left, by the clause
+abbrev pub Searched : Store → Search → Answer → Search → Type 0
+Searched s x Going y = (y.assumed ≡ x.assumed) × (Deepened s x y ⊎ Turned s x y)
+Searched s x (Yes ms) y = Unbroken s x × (s.variables ≤ x.walk.depth) × (ms ≡ x.walk.marks)
+Searched s x (No r) y = IsClause x r × BrokenNow s x × ((j : ℕ) → j < x.walk.depth → at_walk x.walk j ≢ Zero)
+
+-- what a search is after an answer: it goes on, or it is closed
+abbrev pub After : Answer → Search → Option Search → Type 0
+After Going y o = o ≡ Some y
+After (Yes ms) y o = o ≡ None
+After (No r) y o = o ≡ None
+
+-- the open search makes a step; without one nothing changes
 abbrev pub Walked : Plain → Result Answer EngineFault → Plain → Type 0
-Walked s (Ok Going) t = Deepened s t ⊎ Turned s t
-Walked s (Ok (Yes ms)) t = Unbroken s × (s.store.variables ≤ s.walk.depth) × (ms ≡ s.walk.marks)
-Walked s (Ok (No r)) t = BrokenNow s × ((j : ℕ) → j < s.walk.depth → at_walk s.walk j ≢ Zero)
-Walked s (Err e) t = t.walk ≡ s.walk
+Walked s (Ok a) t = (x y : Search) × (s.asking ≡ Some x) × Searched s.store x a y × After a y t.asking
+Walked s (Err e) t = t.asking ≡ s.asking

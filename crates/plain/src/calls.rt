@@ -1,13 +1,16 @@
 // The plain engine as a holder of rules and an engine.
-ghost use Rattle.std.specs.Prelude.{◌≡◌, ℕ, ◌+◌, ◌^◌, ◌<◌, ◌≤◌, true, false};
+ghost use Rattle.std.specs.Prelude.{◌≡◌, ℕ, ◌+◌, ◌^◌, ◌<◌, ◌≤◌, Ok};
 ghost use Rattle.engine.specs.Questions.{engine_limits, empty, none, Stepped};
 ghost use Rattle.store.specs.View.{held_in};
-ghost use Rattle.plain.specs.Steps.{Adds, BrokenHere, Walked, asked_by};
+ghost use Rattle.plain.specs.Ready.{at_walk};
+ghost use Rattle.plain.specs.Steps.{Adds, BrokenHere, Searched, Walked, asked_by};
 ghost use Rattle.store.proofs.Views.{held_fits};
 ghost use Rattle.std.proofs.Common.{rules};
+ghost use Rattle.rules.specs.declared.Mark.TheVariants.{Free};
 ghost use Rattle.plain.specs.Stepping;
 
 use super::moves::{any_opposes, clause_row};
+use super::search::Search;
 use super::state::Plain;
 use super::walk::Walk;
 use engine::answer::Answer;
@@ -27,9 +30,52 @@ impl Plain {
     {
         Plain {
             store: Store::new(),
-            asking: false,
-            assumed: Assumed::nothing(),
+            asking: None,
+        }
+    }
+}
+
+impl Search {
+    // A search that begins: nothing is marked.
+    fn start(assumed: Assumed) -> Search
+        ensures assumed { result.assumed ≡ assumed }
+        ensures free { (i : ℕ) → at_walk result.walk i ≡ Free }
+        ensures depth { result.walk.depth ≡ 0 }
+    {
+        Search {
+            assumed,
             walk: Walk::start(),
+        }
+    }
+
+    // Whether a rule or an assumed literal is broken by the marks.
+    fn is_broken(&self, store: &Store) -> bool
+        ensures { BrokenHere store.now self.now result }
+    {
+        any_opposes(&self.assumed.marks, &self.walk.marks, self.walk.depth)
+            || store.first_broken(&self.walk.marks).is_some()
+    }
+
+    // One step: back to the last 0 where something is broken, else on to the next variable.
+    fn step(&mut self, store: &Store) -> Answer
+        ensures { Searched store.now self.old result self.new }
+    {
+        if self.is_broken(store) {
+            match self.walk.last_zero() {
+                Some(t) => {
+                    self.walk.turn(t);
+                    Answer::Going
+                }
+                None => Answer::No(Rule {
+                    coefficients: clause_row(&self.assumed.marks),
+                    degree: 1,
+                }),
+            }
+        } else if self.walk.depth < store.variables {
+            self.walk.deepen();
+            Answer::Going
+        } else {
+            Answer::Yes(self.walk.marks)
         }
     }
 }
@@ -52,7 +98,7 @@ impl RuleHolder for Plain {
     }
 
     fn rules(&self) -> usize {
-        self.store.count
+        self.store.rules.len()
     }
 
     fn rule(&self, k: usize) -> Result<Rule, EngineFault> {
@@ -60,27 +106,13 @@ impl RuleHolder for Plain {
     }
 
     fn add(&mut self, terms: &[Term], degree: u32) -> Result<(), EngineFault> {
-        match self.store.add(terms, degree) {
-            Ok(()) => {
-                self.asking = false;
-                Ok(())
-            }
-            Err(fault) => Err(fault),
-        }
+        self.store.add(terms, degree)?;
+        self.asking = None;
+        Ok(())
     }
 
     fn first_broken(&self, marks: &[Mark; 80]) -> Option<usize> {
         self.store.first_broken(marks)
-    }
-}
-
-impl Plain {
-    // Whether a rule or an assumed literal is broken by the marks.
-    fn is_broken(&self) -> bool
-        ensures { BrokenHere self.now result }
-    {
-        any_opposes(&self.assumed.marks, &self.walk.marks, self.walk.depth)
-            || self.store.first_broken(&self.walk.marks).is_some()
     }
 }
 
@@ -105,8 +137,8 @@ impl Engine for Plain {
         if variables == 0 || WIDTH < variables {
             return Err(EngineFault::Variables(variables));
         }
-        self.asking = false;
         self.store.begin(variables);
+        self.asking = None;
         Ok(())
     }
 
@@ -115,26 +147,20 @@ impl Engine for Plain {
         if by == 0 || WIDTH < total {
             return Err(EngineFault::Variables(total));
         }
-        self.asking = false;
         self.store.widen(total);
+        self.asking = None;
         Ok(())
     }
 
     fn raise(&mut self, k: usize, degree: u32) -> Result<(), EngineFault> {
-        match self.store.raise(k, degree) {
-            Ok(()) => {
-                self.asking = false;
-                Ok(())
-            }
-            Err(fault) => Err(fault),
-        }
+        self.store.raise(k, degree)?;
+        self.asking = None;
+        Ok(())
     }
 
     fn pose(&mut self, assumed: &[Literal]) -> Result<(), EngineFault> {
         let assumed = Assumed::of(assumed, self.store.variables)?;
-        self.assumed = assumed;
-        self.walk = Walk::start();
-        self.asking = true;
+        self.asking = Some(Search::start(assumed));
         Ok(())
     }
 
@@ -142,29 +168,16 @@ impl Engine for Plain {
         ensures stepped { Stepped (held_in self.old.store) (asked_by self.old) result (held_in self.new.store) (asked_by self.new) }
         ensures walked { Walked self.old result self.new }
     {
-        if !self.asking {
+        let store = &self.store;
+        let Some(search) = &mut self.asking else {
             return Err(EngineFault::NoQuestion);
-        }
-        if self.is_broken() {
-            match self.walk.last_zero() {
-                Some(t) => {
-                    self.walk.turn(t);
-                    Ok(Answer::Going)
-                }
-                None => {
-                    self.asking = false;
-                    Ok(Answer::No(Rule {
-                        coefficients: clause_row(&self.assumed.marks),
-                        degree: 1,
-                    }))
-                }
+        };
+        match search.step(store) {
+            Answer::Going => Ok(Answer::Going),
+            answer => {
+                self.asking = None;
+                Ok(answer)
             }
-        } else if self.walk.depth < self.store.variables {
-            self.walk.deepen();
-            Ok(Answer::Going)
-        } else {
-            self.asking = false;
-            Ok(Answer::Yes(self.walk.marks))
         }
     }
 }

@@ -7,5 +7,6 @@
 
 pub mod calls;
 pub mod moves;
+pub mod search;
 pub mod state;
 pub mod walk;

@@ -14,10 +14,7 @@ use rules::term::WIDTH;
 fn opposes(a: Mark, b: Mark) -> bool
     ensures { result ≡ opposed a b }
 {
-    match (a, b) {
-        (Mark::Zero, Mark::One) | (Mark::One, Mark::Zero) => true,
-        _ => false,
-    }
+    matches!((a, b), (Mark::Zero, Mark::One) | (Mark::One, Mark::Zero))
 }
 
 // Whether one of the first marks of a excludes that of b.
@@ -25,12 +22,7 @@ pub fn any_opposes(a: &[Mark; 80], b: &[Mark; 80], depth: usize) -> bool
     requires { depth ≤ 80 }
     ensures { OpposedFound (marked a.now) (marked b.now) depth result }
 {
-    for v in 0..depth {
-        if opposes(a[v], b[v]) {
-            return true;
-        }
-    }
-    false
+    a.iter().zip(b).take(depth).any(|(a, b)| opposes(*a, *b))
 }
 
 // The coefficient of the literal that a mark makes false.
@@ -70,12 +62,9 @@ impl Walk {
     pub fn last_zero(&self) -> Option<usize>
         ensures { ZeroFound (marked self.now.marks) self.now.depth result }
     {
-        for t in (0..self.depth).rev() {
-            if let Mark::Zero = self.marks[t] {
-                return Some(t);
-            }
-        }
-        None
+        self.marks[..self.depth]
+            .iter()
+            .rposition(|mark| *mark == Mark::Zero)
     }
 
     // The variable t turns to 1, and those after it are cleared.
@@ -96,18 +85,12 @@ fn clear_after(marks: &mut [Mark; 80], t: usize)
     ensures marks { (i : ℕ) → marked marks.new i ≡ cleared (marked marks.old) t i }
     ensures wide { length marks.new ≡ 80 }
 {
-    for i in t + 1..WIDTH {
-        marks[i] = Mark::Free;
-    }
+    marks[t + 1..].fill(Mark::Free);
 }
 
 // The coefficients of the clause of all literals that the marks make false.
 pub fn clause_row(marks: &[Mark; 80]) -> [i32; 80]
     ensures { (i : ℕ) → at result i ≡ refuted (marked marks.now i) }
 {
-    let mut row = [0; WIDTH];
-    for i in 0..WIDTH {
-        row[i] = refuting(marks[i]);
-    }
-    row
+    marks.map(refuting)
 }

@@ -1,5 +1,6 @@
-// The state of the plain engine: its rules, and where it stands in the search for an answer.
-ghost use Rattle.std.specs.Prelude.{◌≡◌, ℕ, ◌<◌, ◌≤◌, true, ◌≢◌};
+// The state of the plain engine: its rules, and the search for an answer while a question is open.
+ghost use Rattle.std.specs.Prelude.{◌≡◌, ℕ, ◌<◌, ◌≤◌, ◌≢◌};
+ghost use Rattle.std.specs.Option.{ForSome};
 ghost use Rattle.rules.specs.Terms.{only};
 ghost use Rattle.rules.specs.declared.Mark.TheVariants.{Free};
 ghost use Rattle.store.specs.View.{held_in};
@@ -7,21 +8,15 @@ ghost use Rattle.store.specs.Assumes.{assumed_in};
 ghost use Rattle.backtrack.specs.Walk.{Exhausted};
 ghost use Rattle.plain.specs.Ready.{at_walk};
 
-use super::walk::Walk;
-use store::assumed::Assumed;
+use super::search::Search;
 use store::keep::Store;
 
-// While a question is open, exactly the first variables are marked, only variables that are there are assumed, and no
-// solution was passed.
+// A search marks and assumes only variables that are there, and has passed no solution.
 #[derive(Drop)]
 pub struct Plain {
     pub store: Store,
-    pub asking: bool,
-    pub assumed: Assumed,
-    pub walk: Walk,
-    ghost deep: { asking ≡ true → walk.depth ≤ store.variables },
-    ghost marked: { asking ≡ true → (i : ℕ) → i < walk.depth → at_walk walk i ≢ Free },
-    ghost first: { asking ≡ true → (i : ℕ) → (at_walk walk i ≢ Free) → i < walk.depth },
-    ghost known: { asking ≡ true → (v : ℕ) → (only (assumed_in assumed) v ≢ Free) → v < store.variables },
-    ghost exhausted: { asking ≡ true → Exhausted (held_in store) (assumed_in assumed) (at_walk walk) walk.depth },
+    pub asking: Option<Search>,
+    ghost deep: { ForSome asking (λ x. x.walk.depth ≤ store.variables) },
+    ghost known: { ForSome asking (λ x. (v : ℕ) → (only (assumed_in x.assumed) v ≢ Free) → v < store.variables) },
+    ghost exhausted: { ForSome asking (λ x. Exhausted (held_in store) (assumed_in x.assumed) (at_walk x.walk) x.walk.depth) },
 }

@@ -1,14 +1,9 @@
 -- The terms of a rule.
-use Rattle.std.specs.Prelude.{◌≡◌, ℕ, ◌<◌, List, length, take, ℤ, slice_index_or}
+use Rattle.std.specs.Prelude.{◌≡◌, ℕ, ◌<◌, List, length, ℤ, slice_index_or}
 use Rattle.rules.specs.Rule.{at, size}
 use Rattle.rules.specs.Terms.{row_of}
 use Rattle.rules.specs.declared.term.Term.{Term as Pair}
 use Rattle.engine.specs.Held.{no_term, variable_of}
-use Rattle.solve.specs.declared.listed.Terms.{Terms}
-
--- the terms up to the count
-abbrev pub listed : Terms → List Pair
-listed t = take t.count t.terms
 
 -- the terms stand for the row: each is of a variable of its own, in their order, and has that variable's coefficient
 pub record Lists (row : List ℤ) (ts : List Pair) : Type 0 where

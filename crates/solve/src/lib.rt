@@ -3,25 +3,15 @@
 
 ghost use Rattle.std.specs.Prelude.{◌≡◌, ℕ, ◌<◌, ◌≤◌, length, Ok, unsigned_abs};
 ghost use Rattle.rules.specs.Terms.{signed};
-ghost use Rattle.solve.specs.Listed.{listed, Lists};
+ghost use Rattle.solve.specs.Listed.{Lists};
 ghost use Rattle.solve.specs.Loads.{Loads, Solves};
 
-pub mod listed;
-
+use arrayvec::ArrayVec;
 use ask::{Asked, ask};
 use engine::asked::Engine;
 use engine::holder::RuleHolder;
 use faults::fault::EngineFault;
-use listed::Terms;
 use rules::term::{Literal, Term, WIDTH};
-
-const NO_TERM: Term = Term {
-    coefficient: 0,
-    literal: Literal {
-        variable: 0,
-        negated: false,
-    },
-};
 
 // The term of a variable with this coefficient.
 fn term_of(variable: usize, coefficient: i32) -> Term
@@ -38,27 +28,18 @@ fn term_of(variable: usize, coefficient: i32) -> Term
     }
 }
 
-impl Terms {
-    pub fn as_slice(&self) -> &[Term]
-        ensures { result.now ≡ listed self.now }
-    {
-        &self.terms[0..self.count]
-    }
-}
-
 // The terms of a row of coefficients.
-pub fn terms_of(row: &[i32; 80]) -> Terms
-    ensures { Lists row.now (listed result) }
+pub fn terms_of(row: &[i32; 80]) -> ArrayVec<Term, 80>
+    ensures { Lists row.now result.items }
 {
-    let mut count = 0;
-    let mut terms = [NO_TERM; WIDTH];
+    let mut terms = ArrayVec::new();
+    // the index is the variable of the term
     for i in 0..WIDTH {
         if row[i].unsigned_abs() > 0 {
-            terms[count] = term_of(i, row[i]);
-            count += 1;
+            terms.push(term_of(i, row[i]));
         }
     }
-    Terms { count, terms }
+    terms
 }
 
 // Starts the engine again with the holder's variables and rules.
@@ -70,9 +51,7 @@ pub fn load<H: RuleHolder, E: Engine>(holder: &H, engine: &mut E) -> Result<(), 
     for k in 0..holder.rules() {
         let rule = holder.rule(k)?;
         let terms = terms_of(&rule.coefficients);
-        if let Err(fault) = engine.add(terms.as_slice(), rule.degree) {
-            return Err(fault);
-        }
+        engine.add(terms.as_slice(), rule.degree)?;
     }
     Ok(())
 }
@@ -86,8 +65,5 @@ pub fn solve<H: RuleHolder, E: Engine>(
     ensures { Solves H.RuleHolder.limits E.Engine.pledge (H.RuleHolder.held holder.now) allowance result }
 {
     load(holder, engine)?;
-    match ask(engine, &[], allowance) {
-        Ok(asked) => Ok(asked),
-        Err(fault) => Err(fault),
-    }
+    ask(engine, &[], allowance)
 }

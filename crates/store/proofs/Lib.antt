@@ -1,3 +1,4 @@
 pub mod Views
 pub mod Distinct
 pub mod Rows
+pub mod Standing

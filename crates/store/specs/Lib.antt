@@ -1,2 +1,3 @@
+pub mod Stands
 pub mod View
 pub mod Assumes

@@ -1,37 +1,25 @@
 // Which literals a question can assume.
-ghost use Rattle.std.specs.Prelude.{◌≡◌, ℕ, ◌<◌, ◌≤◌, [], length, Decides, Result as Outcome};
+ghost use Rattle.std.specs.Prelude.{◌≡◌, ℕ, ◌<◌, ◌≤◌, [], length, MatchOption, Result as Outcome};
+ghost use Rattle.engine.specs.Held.{FirstBad, Every};
 ghost use Rattle.engine.specs.Questions.{GoodLiteral};
-ghost use Rattle.store.specs.Assumes.{assumed_in, LiteralBefore, Takes};
+ghost use Rattle.store.specs.Assumes.{assumed_in, Takes};
 
 use super::assumed::Assumed;
+use super::stands::stands_alone;
+use arrayvec::ArrayVec;
 use faults::fault::EngineFault;
 use rules::Mark;
 use rules::term::{Literal, WIDTH};
 
-const NO_LITERAL: Literal = Literal {
-    variable: 0,
-    negated: false,
-};
-
-// Whether a literal before this index has the same variable.
-fn repeats(literals: &[Literal], i: usize) -> bool
-    requires { i < length literals.now }
-    ensures { Decides result (LiteralBefore literals.now i) }
+// The first literal that is of none of the variables, or of one before it.
+fn bad_literal(literals: &[Literal], variables: usize) -> Option<usize>
+    ensures { MatchOption result (Every (GoodLiteral variables literals.now) (length literals.now)) (λ i. FirstBad (GoodLiteral variables literals.now) (length literals.now) i) }
 {
-    for j in 0..i {
-        if literals[j].variable == literals[i].variable {
-            return true;
-        }
-    }
-    false
-}
-
-// Whether the literal of this index is of one of the variables, and of none before it.
-fn is_good(literals: &[Literal], i: usize, variables: usize) -> bool
-    requires { i < length literals.now }
-    ensures { Decides result (GoodLiteral variables literals.now i) }
-{
-    literals[i].variable < variables && !repeats(literals, i)
+    (0..literals.len()).find(
+        |&i|
+            requires { i < length literals.now }
+        { !stands_alone(literals, i, variables) },
+    )
 }
 
 impl Assumed {
@@ -40,8 +28,7 @@ impl Assumed {
         ensures { assumed_in result ≡ [] }
     {
         Assumed {
-            count: 0,
-            literals: [NO_LITERAL; WIDTH],
+            literals: ArrayVec::new(),
             marks: [Mark::Free; WIDTH],
         }
     }
@@ -51,18 +38,15 @@ impl Assumed {
         requires { variables ≤ 80 }
         ensures { Takes variables literals.now result }
     {
-        let mut chosen = [NO_LITERAL; WIDTH];
+        if let Some(i) = bad_literal(literals, variables) {
+            return Err(EngineFault::Term(i));
+        }
         let mut marks = [Mark::Free; WIDTH];
-        for i in 0..literals.len() {
-            if !is_good(literals, i, variables) {
-                return Err(EngineFault::Term(i));
-            }
-            chosen[i] = literals[i];
-            marks[literals[i].variable] = literals[i].true_mark();
+        for literal in literals {
+            marks[literal.variable] = literal.true_mark();
         }
         Ok(Assumed {
-            count: literals.len(),
-            literals: chosen,
+            literals: ArrayVec::try_from(literals).unwrap(),
             marks,
         })
     }

@@ -1,42 +1,31 @@
-// The rules of an engine: what both engines do alike. Rows past the count hold what is left from earlier rules, and say
-// nothing.
+// The rules of an engine: what both engines do alike.
 #![tactic(auto)]
 
 ghost use Rattle.std.specs.Prelude.{◌≡◌, ℕ, ◌+◌, ◌<◌, ◌≤◌, min, false, length, is_ok, Decides, Result as Outcome, MatchOption, slice_index_or};
 ghost use Rattle.faults.specs.declared.fault.EngineFault.{EngineFault as Fault};
 ghost use Rattle.rules.specs.Rule.{marked};
 ghost use Rattle.rules.specs.Terms.{row_of, signed};
-ghost use Rattle.engine.specs.Held.{Held, Copied, FirstBroken, Added, BreaksRule, blank, no_term, variable_of, GoodTerm, FirstBad, Every};
+ghost use Rattle.engine.specs.Held.{Held, Copied, FirstBroken, Added, BreaksRule, blank, no_term, GoodTerm, FirstBad, Every};
 ghost use Rattle.engine.specs.Questions.{engine_limits, empty, with_variables, CanRaise, with_raised};
-ghost use Rattle.store.specs.View.{held_in, Raises, NamedBefore};
+ghost use Rattle.store.specs.View.{held_in, Raises};
 
 pub mod assume;
 pub mod assumed;
 pub mod keep;
+mod stands;
 
+use arrayvec::ArrayVec;
 use faults::fault::EngineFault;
 use keep::Store;
 use rules::Mark;
 use rules::reach::sum_left;
 use rules::term::{Rule, Term, WIDTH};
+use stands::stands_alone;
 
 // The most rules that an engine holds, and the greatest coefficient and degree.
 pub const ROOM: usize = 160;
 
 pub const MOST: u32 = 1_000_000_000;
-
-// Whether a term before this index has the same variable.
-fn repeats(terms: &[Term], i: usize) -> bool
-    requires { i < length terms.now }
-    ensures { Decides result (NamedBefore terms.now i) }
-{
-    for j in 0..i {
-        if terms[j].literal.variable == terms[i].literal.variable {
-            return true;
-        }
-    }
-    false
-}
 
 // Whether the term of this index is within the limits, and its variable is one of those that are there and in no term
 // before it.
@@ -44,23 +33,19 @@ fn is_good(terms: &[Term], i: usize, variables: usize, most: u32) -> bool
     requires { i < length terms.now }
     ensures { Decides result (GoodTerm most variables terms.now i) }
 {
-    let Term {
-        coefficient,
-        literal,
-    } = terms[i];
-    0 < coefficient && coefficient <= most && literal.variable < variables && !repeats(terms, i)
+    let coefficient = terms[i].coefficient;
+    0 < coefficient && coefficient <= most && stands_alone(terms, i, variables)
 }
 
 // The first term that is not good.
 pub fn bad_term(terms: &[Term], variables: usize, most: u32) -> Option<usize>
     ensures { MatchOption result (Every (GoodTerm most variables terms.now) (length terms.now)) (λ i. FirstBad (GoodTerm most variables terms.now) (length terms.now) i) }
 {
-    for i in 0..terms.len() {
-        if !is_good(terms, i, variables, most) {
-            return Some(i);
-        }
-    }
-    None
+    (0..terms.len()).find(
+        |&i|
+            requires { i < length terms.now }
+        { !is_good(terms, i, variables, most) },
+    )
 }
 
 // The coefficient of a term, negative on the complement.
@@ -90,6 +75,14 @@ pub fn row(terms: &[Term], variables: usize, most: u32) -> [i32; 80]
     row
 }
 
+// Whether the marks of so many variables break the rule.
+fn breaks(rule: &Rule, variables: usize, marks: &[Mark; 80]) -> bool
+    requires { variables ≤ 80 }
+    ensures { Decides result (BreaksRule variables rule.now (marked marks.now)) }
+{
+    sum_left(&rule.coefficients, marks, variables) < u64::from(rule.degree)
+}
+
 impl Store {
     // A store of no variables and no rules.
     pub fn new() -> Store
@@ -97,11 +90,7 @@ impl Store {
     {
         Store {
             variables: 0,
-            count: 0,
-            rules: [Rule {
-                coefficients: [0; WIDTH],
-                degree: 0,
-            }; ROOM],
+            rules: ArrayVec::new(),
         }
     }
 
@@ -111,7 +100,7 @@ impl Store {
         ensures { held_in self.new ≡ empty variables }
     {
         self.variables = variables;
-        self.count = 0;
+        self.rules.clear();
     }
 
     // So many variables in all, which are no fewer than before.
@@ -127,31 +116,17 @@ impl Store {
     pub fn rule(&self, k: usize) -> Result<Rule, EngineFault>
         ensures { Copied (held_in self.now) k result }
     {
-        if k >= self.count {
-            return Err(EngineFault::Rule(k));
-        }
-        Ok(self.rules[k])
-    }
-
-    // Whether the marks break rule k.
-    fn breaks(&self, k: usize, marks: &[Mark; 80]) -> bool
-        requires { k < self.now.count }
-        ensures { Decides result (BreaksRule self.now.variables (slice_index_or self.now.rules k blank) (marked marks.now)) }
-    {
-        let rule = &self.rules[k];
-        sum_left(&rule.coefficients, marks, self.variables) < u64::from(rule.degree)
+        self.rules.get(k).copied().ok_or(EngineFault::Rule(k))
     }
 
     // The first rule that the marks break.
     pub fn first_broken(&self, marks: &[Mark; 80]) -> Option<usize>
         ensures { FirstBroken (held_in self.now) marks.now result }
     {
-        for k in 0..self.count {
-            if self.breaks(k, marks) {
-                return Some(k);
-            }
-        }
-        None
+        let variables = self.variables;
+        self.rules
+            .iter()
+            .position(|rule| breaks(rule, variables, marks))
     }
 
     // Lifts the degree of rule k.
@@ -159,7 +134,7 @@ impl Store {
         ensures raised { Raises k degree (held_in self.old) result (held_in self.new) }
         ensures refused { is_ok result ≡ false → self.new ≡ self.old }
     {
-        if k >= self.count || degree < self.rules[k].degree || MOST < degree {
+        if k >= self.rules.len() || degree < self.rules[k].degree || MOST < degree {
             return Err(EngineFault::Rule(k));
         }
         self.rules[k].degree = degree;
@@ -171,7 +146,7 @@ impl Store {
         ensures added { Added engine_limits (held_in self.old) terms.now degree result (held_in self.new) }
         ensures refused { is_ok result ≡ false → self.new ≡ self.old }
     {
-        if self.count >= ROOM {
+        if self.rules.is_full() {
             return Err(EngineFault::Full(ROOM));
         }
         if let Some(i) = bad_term(terms, self.variables, MOST) {
@@ -180,11 +155,11 @@ impl Store {
         if MOST < degree {
             return Err(EngineFault::Term(terms.len()));
         }
-        self.rules[self.count] = Rule {
-            coefficients: row(terms, self.variables, MOST),
+        let coefficients = row(terms, self.variables, MOST);
+        self.rules.push(Rule {
+            coefficients,
             degree,
-        };
-        self.count += 1;
+        });
         Ok(())
     }
 }

@@ -1,5 +1,6 @@
-ghost use Rattle.std.specs.Prelude.{◌<◌};
 // Numbers by chance, always the same ones from the same start.
+ghost use Rattle.std.specs.Prelude.{◌<◌};
+
 #[derive(Drop)]
 pub struct Chance {
     state: u64,

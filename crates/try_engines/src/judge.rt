@@ -3,12 +3,14 @@ use super::chance::Chance;
 use ask::{Asked, ask};
 use engine::answer::Answer;
 use engine::asked::Engine;
+use faults::fault::EngineFault;
 use rules::Mark;
 use rules::reach::sum_left;
 use rules::term::{Literal, Rule, Term};
+use std::array;
 
 // How many questions were answered with yes and with no, how many answers were wrong, and the steps of all.
-#[derive(Clone, Copy)]
+#[derive(Clone, Copy, Default)]
 pub struct Tally {
     pub yes: u32,
     pub no: u32,
@@ -18,15 +20,10 @@ pub struct Tally {
 
 // Tries so many rule sets.
 pub fn compare_all<E: Engine>(engine: &mut E, chance: &mut Chance, trials: u32) -> Tally {
-    let mut tally = Tally {
-        yes: 0,
-        no: 0,
-        wrong: 0,
-        steps: 0,
-    };
+    let mut tally = Tally::default();
     for _ in 0..trials {
         let variables = 1 + chance.below(6) as usize;
-        if make_rules(engine, chance, variables) {
+        if make_rules(engine, chance, variables).is_ok() {
             for assumed in 0..4 {
                 question(engine, chance, variables, assumed, &mut tally);
             }
@@ -37,39 +34,28 @@ pub fn compare_all<E: Engine>(engine: &mut E, chance: &mut Chance, trials: u32) 
     tally
 }
 
-// Begins anew with rules made by chance; false where the engine refuses one.
-fn make_rules<E: Engine>(engine: &mut E, chance: &mut Chance, variables: usize) -> bool {
-    if engine.begin(variables).is_err() {
-        return false;
-    }
+// Begins anew with rules made by chance, or what the engine refuses.
+fn make_rules<E: Engine>(
+    engine: &mut E,
+    chance: &mut Chance,
+    variables: usize,
+) -> Result<(), EngineFault> {
+    engine.begin(variables)?;
     for _ in 0..1 + chance.below(6) {
-        if !make_rule(engine, chance, variables) {
-            return false;
-        }
+        let terms = six_terms(chance);
+        let degree = chance.below(10);
+        engine.add(&terms[..variables.min(6)], degree)?;
     }
-    true
+    Ok(())
 }
 
-// Adds one rule; false where the engine refuses it.
-fn make_rule<E: Engine>(engine: &mut E, chance: &mut Chance, variables: usize) -> bool {
-    let terms = six_terms(chance);
-    let degree = chance.below(10);
-    engine.add(&terms[0..variables.min(6)], degree).is_ok()
-}
-
-// A term of each of the first six variables.
+// A term of each of the first six variables. The number before those of the terms is not used.
 fn six_terms(chance: &mut Chance) -> [Term; 6] {
-    let mut terms = [Term {
-        coefficient: 1,
-        literal: literal(chance, 0),
-    }; 6];
-    for i in 0..6 {
-        terms[i] = Term {
-            coefficient: 1 + chance.below(5),
-            literal: literal(chance, i),
-        };
-    }
-    terms
+    chance.below(2);
+    array::from_fn(|variable| Term {
+        coefficient: 1 + chance.below(5),
+        literal: literal(chance, variable),
+    })
 }
 
 // A variable or its complement.
@@ -90,10 +76,11 @@ fn question<E: Engine>(
 ) {
     let assumed = [literal(chance, 0), literal(chance, 1), literal(chance, 2)];
     let used = literals.min(variables).min(3);
-    let right = match ask(engine, &assumed[0..used], 1_000_000) {
+    let assumed = &assumed[..used];
+    let right = match ask(engine, assumed, 1_000_000) {
         Ok(Asked { answer, steps }) => {
             tally.steps = tally.steps.saturating_add(steps);
-            is_right(engine, &assumed[0..used], answer, tally)
+            is_right(engine, assumed, answer, tally)
         }
         Err(_) => false,
     };
@@ -119,33 +106,29 @@ fn is_right<E: Engine>(engine: &E, assumed: &[Literal], answer: Answer, tally: &
 
 // Whether the marks meet the rules and the literals.
 fn is_solution<E: Engine>(engine: &E, assumed: &[Literal], marks: &[Mark; 80]) -> bool {
-    for literal in assumed {
-        if literal.variable >= 80 || marks[literal.variable] != literal.true_mark() {
-            return false;
-        }
-    }
     engine.first_broken(marks).is_none()
+        && assumed.iter().all(|literal| marks.get(literal.variable) == Some(&literal.true_mark()))
 }
 
 // Whether no marking is a solution, all that meet the rules meet this rule, and the literals alone break it.
 fn refutes<E: Engine>(engine: &E, assumed: &[Literal], rule: &Rule) -> bool {
     let variables = engine.variables().min(80);
-    for number in 0..64 {
+    (0..64).all(|number| {
         let marks = marking(number);
-        if is_solution(engine, assumed, &marks) {
-            return false;
-        }
-        if engine.first_broken(&marks).is_none() && is_below(rule, &marks, variables) {
-            return false;
-        }
-    }
+        engine.first_broken(&marks).is_some()
+            || !is_solution(engine, assumed, &marks) && !is_below(rule, &marks, variables)
+    }) && is_below(rule, &marks_of(assumed), variables)
+}
+
+// The marks of these literals alone.
+fn marks_of(literals: &[Literal]) -> [Mark; 80] {
     let mut marks = [Mark::Free; 80];
-    for literal in assumed {
+    for literal in literals {
         if literal.variable < 80 {
             marks[literal.variable] = literal.true_mark();
         }
     }
-    is_below(rule, &marks, variables)
+    marks
 }
 
 // Whether the rule's degree is out of reach.
@@ -153,13 +136,13 @@ fn is_below(rule: &Rule, marks: &[Mark; 80], variables: usize) -> bool {
     sum_left(&rule.coefficients, marks, variables.min(80)) < u64::from(rule.degree)
 }
 
-// The marking of six variables with this number.
+// The marking of six variables with this number: each bit is a variable's.
 fn marking(number: u32) -> [Mark; 80] {
-    let mut marks = [Mark::Free; 80];
-    let mut rest = number;
-    for i in 0..6 {
-        marks[i] = if rest % 2 == 0 { Mark::Zero } else { Mark::One };
-        rest /= 2;
-    }
-    marks
+    array::from_fn(|variable| {
+        if variable < 6 {
+            Mark::from(number >> variable & 1 == 1)
+        } else {
+            Mark::Free
+        }
+    })
 }

@@ -11,12 +11,8 @@ fn show<T: Drop>(rt: &HostRuntime, call: &str, res: Result<T, EngineFault>) -> i
     match res {
         Ok(_) => println!(rt; "{call}: taken"),
         Err(fault) => {
-            let Refusal {
-                layer,
-                number,
-                place,
-            } = Refusal::from(fault);
-            println!(rt; "{call}: refused {layer} {number} {place}")
+            let refusal = Refusal::from(fault);
+            println!(rt; "{call}: refused {refusal}")
         }
     }
 }

@@ -17,11 +17,18 @@ use rules::Mark;
 use rules::term::{Literal, Rule, Term};
 use store::assumed::Assumed;
 
+// Which of the two times an open question is asked.
+#[derive(Clone, Copy, PartialEq, Eq, Debug)]
+pub enum Round {
+    First,
+    Second,
+}
+
 #[derive(Drop)]
 pub struct Twice<E: Engine> {
     inner: E,
     assumed: Assumed,
-    second: bool,
+    round: Round,
 }
 
 impl<E: Engine> Twice<E> {
@@ -32,7 +39,7 @@ impl<E: Engine> Twice<E> {
         Twice {
             inner,
             assumed: Assumed::nothing(),
-            second: false,
+            round: Round::First,
         }
     }
 }
@@ -42,7 +49,7 @@ impl<E: Engine> RuleHolder for Twice<E> {
 
     ghost limits = { E.RuleHolder.limits };
 
-    ghost adds = { λ s r t. E.RuleHolder.adds s.inner r t.inner × (t.assumed ≡ s.assumed) × (t.second ≡ s.second) × ((E.RuleHolder.held t.inner).variables ≡ (E.RuleHolder.held s.inner).variables) };
+    ghost adds = { λ s r t. E.RuleHolder.adds s.inner r t.inner × (t.assumed ≡ s.assumed) × (t.round ≡ s.round) × ((E.RuleHolder.held t.inner).variables ≡ (E.RuleHolder.held s.inner).variables) };
 
     ghost few = { Prim.search rules };
 
@@ -59,29 +66,20 @@ impl<E: Engine> RuleHolder for Twice<E> {
     }
 
     fn rule(&self, k: usize) -> Result<Rule, EngineFault> {
-        match self.inner.rule(k) {
-            Ok(rule) => Ok(rule),
-            Err(fault) => Err(fault),
-        }
+        self.inner.rule(k)
     }
 
     fn add(&mut self, terms: &[Term], degree: u32) -> Result<(), EngineFault> {
-        match self.inner.add(terms, degree) {
-            Ok(()) => Ok(()),
-            Err(fault) => Err(fault),
-        }
+        self.inner.add(terms, degree)
     }
 
     fn first_broken(&self, marks: &[Mark; 80]) -> Option<usize> {
-        match self.inner.first_broken(marks) {
-            Some(k) => Some(k),
-            None => None,
-        }
+        self.inner.first_broken(marks)
     }
 }
 
 impl<E: Engine> Engine for Twice<E> {
-    ghost question = { λ s. in_round s.second E.Engine.pledge (E.Engine.question s.inner) };
+    ghost question = { λ s. in_round s.round E.Engine.pledge (E.Engine.question s.inner) };
 
     ghost pledge = { E.Engine.pledge + E.Engine.pledge };
 
@@ -95,7 +93,7 @@ impl<E: Engine> Engine for Twice<E> {
 
     ghost add_refused = { λ s t e h.
         ap (λ b. in_round b E.Engine.pledge (E.Engine.question t.inner)) h.2
-        ∙ ap (in_round s.second E.Engine.pledge) (E.Engine.add_refused s.inner t.inner e h.0) };
+        ∙ ap (in_round s.round E.Engine.pledge) (E.Engine.add_refused s.inner t.inner e h.0) };
 
     ghost add_sound = { λ s t.
         elim [
@@ -113,57 +111,35 @@ impl<E: Engine> Engine for Twice<E> {
         ] };
 
     fn begin(&mut self, variables: usize) -> Result<(), EngineFault> {
-        match self.inner.begin(variables) {
-            Ok(()) => Ok(()),
-            Err(fault) => Err(fault),
-        }
+        self.inner.begin(variables)
     }
 
     fn grow(&mut self, by: usize) -> Result<(), EngineFault> {
-        match self.inner.grow(by) {
-            Ok(()) => Ok(()),
-            Err(fault) => Err(fault),
-        }
+        self.inner.grow(by)
     }
 
     fn raise(&mut self, k: usize, degree: u32) -> Result<(), EngineFault> {
-        match self.inner.raise(k, degree) {
-            Ok(()) => Ok(()),
-            Err(fault) => Err(fault),
-        }
+        self.inner.raise(k, degree)
     }
 
     fn pose(&mut self, assumed: &[Literal]) -> Result<(), EngineFault> {
         let taken = Assumed::of(assumed, self.inner.variables())?;
-        match self.inner.pose(assumed) {
-            Ok(()) => {
-                self.assumed = taken;
-                self.second = false;
-                Ok(())
-            }
-            Err(fault) => Err(fault),
-        }
+        self.inner.pose(assumed)?;
+        self.assumed = taken;
+        self.round = Round::First;
+        Ok(())
     }
 
     fn step(&mut self) -> Result<Answer, EngineFault> {
-        match self.inner.step() {
-            Ok(Answer::Going) => Ok(Answer::Going),
-            Ok(answer) => {
-                if self.second {
-                    return Ok(answer);
-                }
-                self.second = true;
-                let Assumed {
-                    literals,
-                    count,
-                    ..
-                } = self.assumed;
-                match self.inner.pose(&literals[0..count]) {
-                    Ok(()) => Ok(Answer::Going),
-                    Err(fault) => Err(fault),
-                }
+        match (self.inner.step()?, self.round) {
+            (Answer::Going, _) => Ok(Answer::Going),
+            (answer, Round::Second) => Ok(answer),
+            (_, Round::First) => {
+                self.round = Round::Second;
+                let assumed = &self.assumed;
+                self.inner.pose(&assumed.literals)?;
+                Ok(Answer::Going)
             }
-            Err(fault) => Err(fault),
         }
     }
 }

@@ -45,7 +45,7 @@ more c p r =
     let ts = c.args.terms.now in
     let good = subst (λ (n : ℕ). Every (GoodTerm 1000000 n ts) (length ts)) p c.in_default.ensures in
     outcome s.words s.fine c.rules-rules.result c.args.degree ts c.row-row.result c.write_row.new.words _ good c.row-row.ensures
-    c.if-rules-ge-ROWS.false c.if-degree-gt-MOST_DEGREE.false (c.write_row.auto.words ∙ s.whole) (sym r) (next _ c.if-rules-ge-ROWS.false) c.write_row.ensures
+    c.if-rules-ge-ROWS.false c.if-degree-gt-MOST_DEGREE.false c.write_row.ensures.whole (sym r) (next _ c.if-rules-ge-ROWS.false) c.write_row.ensures.written
 
 pub invariant_of-self : goal.invariant_of-self
 invariant_of-self c =

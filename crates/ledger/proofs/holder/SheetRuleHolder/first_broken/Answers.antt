@@ -1,29 +1,16 @@
-use Rattle.std.proofs.Common.{◌<◌, ◌≤◌, Some, None, subst, arith, below_more}
-use borrow.Author.Tests.{clash}
+use Rattle.std.proofs.Common.{subst, rules, tests}
+use Rattle.std.proofs.lemmas.Iterator.{first_from_Range}
 use Rattle.rules.specs.Rule.{marked}
-use Rattle.engine.specs.Held.{FirstBroken}
-use Rattle.table.specs.Layout.{rules_of}
-use Rattle.ledger.specs.View.{held_by}
-use Rattle.ledger.specs.Reading.{count_held, broken_held, none_held}
+use Rattle.engine.specs.Held.{FirstBroken, BreaksRule}
+use Rattle.table.specs.Layout.{parts_of}
+use Rattle.ledger.specs.View.{held_by, rule_at}
+use Rattle.ledger.specs.Reading.{first_found}
 use Rattle.ledger.proofs.holder.SheetRuleHolder.first_broken.Goals as goal
-
-pub loop-k-preserved : goal.loop-k-preserved
-loop-k-preserved c = below_more _ _ c.loop-k.invariant (λ b. clash (c.if-breaks.ensures.1 b))
 
 pub returns : goal.returns
 returns c =
     let T = c.checked-table.result.words.now in
-    let value = c.rules-k-end.ensures.value in
-    let done : c.loop-k.k ≤ rules_of T = omega (arith, c.loop-k.auto.k-end) in
-    subst (λ X. FirstBroken (held_by X) c.args.marks.now None) c.checked-table.ensures
-    (λ k l. none_held T c.loop-k.k (marked c.args.marks.now) done c.loop-k.invariant k (omega (arith, count_held T, c.loop-k-test.false)))
-
-pub returns-then-breaks : goal.returns-then-breaks
-returns-then-breaks c =
-    let T = c.checked-table.result.words.now in
     let m = marked c.args.marks.now in
-    let k = c.loop-k.k in
-    let value = c.rules-k-end.ensures.value in
-    let there : k < rules_of T = omega (arith, c.loop-k-test.true) in
-    subst (λ X. FirstBroken (held_by X) c.args.marks.now (Some k)) c.checked-table.ensures
-    (omega (arith, count_held T), broken_held T k m there (c.breaks.ensures.0 c.if-breaks.true), none_held T k m (omega arith) c.loop-k.invariant)
+    subst (λ X. FirstBroken (held_by X) c.args.marks.now c.find.result) c.checked-table.ensures
+    (first_found T c.rules.result c.args.marks.now c.find.result c.rules.ensures.value
+    (first_from_Range _ _ _ _ (λ k. BreaksRule (parts_of T) (rule_at T k) m) (λ k. BreaksRule (parts_of T) (rule_at T k) m → ⊥) c.find.ensures.ran (λ x q k. search (rules, tests)) (λ x q k. search (rules, tests))))

@@ -1,43 +1,32 @@
-use Rattle.std.proofs.Common.{refl, inl, inr}
-use Rattle.plain.specs.Keeping.{fields}
-use Rattle.plain.specs.Stepping.{ready_turned, answered_turned, ready_deeper, answered_deeper, answered_no}
+use Rattle.std.proofs.Common.{Some, None, sym, refl, subst}
+use Rattle.engine.specs.Questions.{none, Answered}
+use Rattle.engine.specs.declared.answer.Answer.TheVariants.{Going}
+use Rattle.store.specs.View.{held_in}
+use Rattle.plain.specs.Steps.{question_of}
+use Rattle.plain.specs.Keeping.{ready, fields_open}
+use Rattle.plain.specs.Stepping.{ready_after, answered, closed}
 use Rattle.plain.proofs.calls.PlainEngine.step.Goals as goal
 
-pub invariant_of-self : goal.invariant_of-self
-invariant_of-self c =
+pub invariant_of-self-in-Going : goal.invariant_of-self-in-Going
+invariant_of-self-in-Going c =
     let p = c.args.self.now in
-    fields p.asking p.store p.assumed c.turn.new.self
-    (λ t. ready_turned p t c.turn.new.self c.in-Some.t c.if-is_broken.ensures c.in-Some.ensures c.turn.ensures.marks c.turn.ensures.depth)
+    fields_open p.store c.step.new.self (ready_after p.store c.in-Some.search (ready p c.in-Some.search c.in-Some.is) c.step.new.self c.in-Going.ensures)
 
-pub invariant_of-self-then-self : goal.invariant_of-self-then-self
-invariant_of-self-then-self c =
+pub returns-in-Going-clause-stepped : goal.returns-in-Going-clause-stepped
+returns-in-Going-clause-stepped c =
     let p = c.args.self.now in
-    fields p.asking p.store p.assumed c.deepen.new.self
-    (λ t. ready_deeper p t c.deepen.new.self c.if-self.true c.deepen.ensures.marks c.deepen.ensures.depth)
+    let x = c.in-Some.search in
+    let y = c.step.new.self in
+    (refl, subst (λ o. Answered (held_in p.store) (question_of p.store o) Going (question_of p.store (Some y))) (sym c.in-Some.is) (answered p.store x (ready p x c.in-Some.is) Going y (Some y) c.in-Going.ensures refl))
 
-pub returns-in-Some : goal.returns-in-Some
-returns-in-Some c =
+pub returns-in_default-step : goal.returns-in_default-step
+returns-in_default-step c =
     let p = c.args.self.now in
-    let found = c.in-Some.ensures in
-    let moved = c.turn.ensures in
+    let x = c.in-Some.search in
+    let y = c.step.new.self in
+    let a = c.step.result in
+    let after = closed a y c.in_default-step.not-Going in
     record {
-      stepped = (refl, answered_turned p c.if-not-self.false c.turn.new.self c.in-Some.t c.if-is_broken.ensures found moved.marks moved.depth);
-      walked = inr (record { broken = c.if-is_broken.ensures; at = c.in-Some.t; within = found.0; was = found.1; last = found.2; marks = moved.marks; depth = moved.depth });
-    }
-
-pub returns-in-None : goal.returns-in-None
-returns-in-None c =
-    let p = c.args.self.now in
-    record {
-      stepped = (refl, answered_no p c.if-not-self.false (record { coefficients = c.clause_row.result; degree = 1 }) c.clause_row.ensures refl c.if-is_broken.ensures c.in-None.ensures);
-      walked = (c.if-is_broken.ensures, c.in-None.ensures);
-    }
-
-pub returns-then-self : goal.returns-then-self
-returns-then-self c =
-    let p = c.args.self.now in
-    let moved = c.deepen.ensures in
-    record {
-      stepped = (refl, answered_deeper p c.if-not-self.false c.deepen.new.self c.if-self.true moved.marks moved.depth);
-      walked = inl (record { sound = c.if-is_broken.ensures; room = c.if-self.true; marks = moved.marks; depth = moved.depth });
+      stepped = (refl, subst (λ o. Answered (held_in p.store) (question_of p.store o) a none) (sym c.in-Some.is) (answered p.store x (ready p x c.in-Some.is) a y None c.step.ensures after));
+      walked = (x, y, c.in-Some.is, c.step.ensures, after);
     }
