@@ -40,7 +40,8 @@ fn measure(rt: &HostRuntime, name: &str, text: &[u8]) -> io::Result<()> {
 
 // A number that depends on the size of every word.
 fn checksum(table: &[i32]) -> u32 {
-    table
-        .iter()
-        .fold(0u32, |sum, word| sum.wrapping_mul(31).wrapping_add(word.unsigned_abs()))
+    table.iter().fold(
+        0u32,
+        |sum, word| sum.wrapping_mul(31).wrapping_add(word.unsigned_abs()),
+    )
 }

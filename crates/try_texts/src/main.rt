@@ -18,7 +18,11 @@ use tally::compared;
 
 fn main(rt: HostRuntime) -> anyhow::Result<()> {
     let list = io::read_to_string(rt.alloc(), rt.stdin())?;
-    let tally = compared("texts", list.as_str(), |line| compare(&rt, rt.alloc(), line))?;
+    let tally = compared(
+        "texts",
+        list.as_str(),
+        |line| compare(&rt, rt.alloc(), line),
+    )?;
     println!(rt; "{tally}")?;
     if tally.is_whole() {
         Ok(())

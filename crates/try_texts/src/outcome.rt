@@ -63,12 +63,7 @@ impl Outcome {
 fn is_clear(table: &[i32]) -> bool
     ensures { Decides result (Clear table.now) }
 {
-    for word in 0..table.len() {
-        if table[word] != 0 {
-            return false;
-        }
-    }
-    true
+    table.iter().all(|word| *word == 0)
 }
 
 // The sizes of the weights together.
@@ -76,11 +71,10 @@ fn sizes(table: &[i32]) -> u64
     requires { length table.now ≡ 2668 }
     ensures { result ≡ sizes_of table.now 40 }
 {
-    let mut sum = 0;
-    for part in 0..40 {
-        sum += u64::from(table[4 + part].unsigned_abs());
-    }
-    sum
+    table[4..44]
+        .iter()
+        .map(|weight| u64::from(weight.unsigned_abs()))
+        .sum()
 }
 
 impl fmt::Display for Outcome {
@@ -99,20 +93,10 @@ impl fmt::Display for Outcome {
                     "accepted parts={parts} rows={rows} priced={priced} c0={base} S={weights}"
                 )
             }
-            Outcome::Refused(refusal) => refused(*refusal, f),
+            Outcome::Refused(refusal) => write!(f, "refused {refusal}"),
             Outcome::Uncleared(refusal) => {
-                refused(*refusal, f)?;
-                write!(f, " with a table that is not cleared")
+                write!(f, "refused {refusal} with a table that is not cleared")
             }
         }
     }
-}
-
-fn refused<W: fmt::Write>(refusal: Refusal, f: &mut fmt::Formatter<W>) -> fmt::Result {
-    let Refusal {
-        layer,
-        number,
-        place,
-    } = refusal;
-    write!(f, "refused {layer} {number} {place}")
 }

@@ -33,7 +33,7 @@ returns-then-is_clear c = record {
   answer = Err c.in-Err.fault;
   whole = length-replicate 2668 (negsuc 0);
   read = c.in-Err.ensures;
-  said = ap Refused c.refusal.ensures;
+  said = ap Refused c.from.ensures;
 }
 
 pub returns-else-is_clear : goal.returns-else-is_clear
