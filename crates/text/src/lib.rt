@@ -39,8 +39,9 @@ impl Class {
         ensures { result ≡ belongs self b }
     {
         match self {
-            Class::Digit => b.is_ascii_digit(),
-            Class::Blank => matches!(b, b' ' | b'\t' | b'\n' | b'\r'),
+            // `is_ascii_digit` and `matches!` take a third longer to read a text of rules
+            Class::Digit => b'0' <= b && b <= b'9',
+            Class::Blank => b == b' ' || b == b'\t' || b == b'\n' || b == b'\r',
             Class::Inline => b != b'\n',
         }
     }
