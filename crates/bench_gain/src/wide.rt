@@ -17,6 +17,7 @@ impl Wide {
         let mut coefficients = [0; WIDTH];
         let mut weights = [0; WIDTH];
         let mut sum = 0;
+        // One pass by numbers: it fills two rows, and adds up the coefficients for the degree.
         for i in 0..WIDTH {
             if i < literals {
                 let size = spread(i, 613_579, 1_000_000);

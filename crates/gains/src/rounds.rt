@@ -68,6 +68,7 @@ impl<'a> Weighted<'a> {
         ensures { LightestBelow (weights self.now.core.now (at self.now.price.now)) (flag members.now) 80 result }
     {
         let mut found = None;
+        // A loop by numbers: of a filtered range whose `min_by_key` is None it was not proved that each number fails the test.
         for i in 0..WIDTH {
             found = self.lighter(members, found, i);
         }

@@ -73,7 +73,8 @@ fn show_core(rt: &impl Print, weighted: &Weighted, variables: usize) -> anyhow::
     }
 }
 
-// Every round, the last with count 0 where there is one.
+// Every round, the last with count 0 where there is one. The search of gains has these steps too, but keeps one round, and
+// leaves out the one with count 0: walking and printing share no more than the calls.
 fn show_rounds(rt: &impl Print, weighted: &Weighted, ranked: &Ranked) -> anyhow::Result<()> {
     let mut members = weighted.literals();
     for number in 1..=WIDTH {
