@@ -45,6 +45,9 @@ fn rule_line(reader: &mut Reader, header: Header, progress: Progress) -> Result<
     Ok(rule)
 }
 
+// The reader, the header and the table are passed side by side: one struct of them would hold two borrows, and a contract
+// would name its fields.
+
 // Rules up to the end of the text, written into the rows of the table; how many rows they take.
 fn rules(reader: &mut Reader, header: Header, table: &mut [i32; WORDS]) -> Result<usize, SheetFault>
     ensures { RulesRead (numbers header) reader.old reader.new table.old table.new result }

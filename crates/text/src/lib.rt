@@ -39,8 +39,8 @@ impl Class {
         ensures { result ≡ belongs self b }
     {
         match self {
-            // `is_ascii_digit` and `matches!` take a third longer to read a text of rules
-            Class::Digit => b'0' <= b && b <= b'9',
+            Class::Digit => b.is_ascii_digit(),
+            // `matches!` takes twice as long over a text of blanks
             Class::Blank => b == b' ' || b == b'\t' || b == b'\n' || b == b'\r',
             Class::Inline => b != b'\n',
         }
