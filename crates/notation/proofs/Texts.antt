@@ -1,9 +1,8 @@
 -- A text that is made of others, and the same text as it is meant.
-use Rattle.std.proofs.Common.{◌≡◌, ℕ, ◌+◌, ◌<◌, ◌^◌, ◌-◌, min, Bool, true, false, cond, not, ◌||◌, List, [], ◌∷◌, ◌++◌, length, ℤ, pos, IfOk, Ok, Err, codes, decimal, Result, refl, sym, ap, ◌∙◌, add-one, arith, nat_abs, ◌==◌, append-nil}
+use Rattle.std.proofs.Common.{◌≡◌, ℕ, ◌+◌, ◌<◌, ◌^◌, ◌-◌, min, Bool, true, false, cond, not, ◌||◌, List, [], ◌∷◌, ◌++◌, ℤ, pos, IfOk, Ok, Err, codes, decimal, Result, refl, sym, ap, ◌∙◌, add-one, arith, nat_abs, ◌==◌, append-nil}
 use Rattle.std.proofs.lemmas.Bool.{both_ways}
 use lib.Signed.{le_z}
 use Rattle.rules.specs.Words.{literal_words, term_words}
-use Rattle.rules.specs.declared.term.Literal.{Literal}
 use Rattle.table.specs.Layout.{coefficient}
 use Rattle.notation.specs.Text.{literal_text, term_text, linked, with_term, signed_term, next_text, terms_text, rule_line, literals_text}
 
