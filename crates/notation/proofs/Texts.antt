@@ -1,15 +1,10 @@
 -- A text that is made of others, and the same text as it is meant.
-use Rattle.std.proofs.Common.{◌≡◌, ℕ, ◌+◌, ◌<◌, ◌^◌, ◌-◌, min, Bool, true, false, cond, not, ◌||◌, List, [], ◌∷◌, ◌++◌, length, ℤ, pos, IfOk, Ok, Err, codes, decimal, Result, refl, sym, ap, ◌∙◌, add-one, arith, nat_abs, ◌==◌, append-nil}
+use Rattle.std.proofs.Common.{◌≡◌, ℕ, ◌+◌, ◌<◌, ◌^◌, ◌-◌, min, Bool, true, false, cond, not, ◌||◌, List, [], ◌∷◌, ◌++◌, ℤ, pos, codes, decimal, refl, sym, ap, ◌∙◌, add-one, arith, nat_abs, ◌==◌, append-nil}
 use Rattle.std.proofs.lemmas.Bool.{both_ways}
 use lib.Signed.{le_z}
 use Rattle.rules.specs.Words.{literal_words, term_words}
-use Rattle.rules.specs.declared.term.Literal.{Literal}
 use Rattle.table.specs.Layout.{coefficient}
 use Rattle.notation.specs.Text.{literal_text, term_text, linked, with_term, signed_term, next_text, terms_text, rule_line, literals_text}
-
-pub made_as : {X E : Type 0} (f : X → List ℕ) (r : Result X E) (bs cs : List ℕ) → IfOk r (λ s. f s ≡ bs) → bs ≡ cs → IfOk r (λ s. f s ≡ cs)
-made_as f (Ok s) bs cs h e = h ∙ e
-made_as f (Err x) bs cs h e = tt
 
 -- the number of a part is below the greatest that there is
 numbered : (i : ℕ) → i < 40 → min (i + 1) (2 ^ 64 - 1) ≡ i + 1

@@ -1,10 +1,10 @@
-use Rattle.std.proofs.Common.{◌≡◌, ℕ, ◌<◌, ◌||◌, Bool, List, ◌++◌, not, pos, ◌==◌, codes, decimal, slice_index_or, sym, ap, ap₂, ◌∙◌, arith, w32, FitsSigned, rules}
+use Rattle.std.proofs.Common.{◌≡◌, ◌<◌, ◌||◌, Bool, ◌++◌, not, pos, ◌==◌, slice_index_or, sym, ap, ap₂, ◌∙◌, arith, w32, FitsSigned, rules}
 use Rattle.std.proofs.lemmas.Int.{to_z-of_z}
 use Rattle.std.proofs.Output.{has_written_append, has_written_of_eq}
 use Rattle.rules.specs.declared.term.Term.{Term}
 use Rattle.table.specs.Layout.{coefficient}
-use Rattle.notation.specs.Text.{terms_text, next_text, signed_term, rule_line, rule_text}
-use Rattle.notation.proofs.Texts.{some_text, terms_next, some_next, rule_line_some, rule_line_none}
+use Rattle.notation.specs.Text.{terms_text, next_text, signed_term, rule_line}
+use Rattle.notation.proofs.Texts.{terms_next, some_next, rule_line_some, rule_line_none}
 use Rattle.notation.proofs.shown.RuleTextDisplay.fmt.Goals as goal
 
 pub loop-part-preserved : goal.loop-part-preserved
