@@ -1,5 +1,5 @@
 // The rounds: which literals are left, and which of them are lightest.
-ghost use Rattle.std.specs.Prelude.{◌≡◌, ℕ, ◌+◌, ◌<◌, false, not, if◌then◌else◌, ◌==◌, nat_eq};
+ghost use Rattle.std.specs.Prelude.{◌≡◌, ℕ, ◌+◌, ◌<◌, false, not, if◌then◌else◌, true, ◌==◌, nat_eq};
 ghost use Rattle.rules.specs.Rule.{at, size};
 ghost use Rattle.rules.specs.Terms.{coefficient};
 ghost use Rattle.cores.specs.Cores.{RuleIs};
@@ -10,7 +10,7 @@ ghost use Rattle.counting.specs.Rounds.{literal_weight};
 ghost use Rattle.gains.specs.Gains.{weights, LightestBelow, better};
 
 use super::kinds::{CountRule, Round};
-use rules::term::{Rule, WIDTH};
+use rules::term::Rule;
 use std::array;
 
 // The weight of a literal under a price, given the literal's coefficient and the price's: 0 where the price has no such
@@ -48,15 +48,13 @@ impl<'a> Weighted<'a> {
         array::from_fn(|i| self.core.coefficients[i].unsigned_abs() != 0)
     }
 
-    // The lighter of what was found below i, and i itself.
+    // The lighter of what was found below i, and i itself, which is a member.
     fn lighter(&self, members: &[bool; 80], found: Option<usize>, i: usize) -> Option<usize>
         requires here { i < 80 }
+        requires member { flag members.now i ≡ true }
         requires before { LightestBelow (weights self.now.core.now (at self.now.price.now)) (flag members.now) i found }
         ensures { LightestBelow (weights self.now.core.now (at self.now.price.now)) (flag members.now) (i + 1) result }
     {
-        if !members[i] {
-            return found;
-        }
         match found {
             Some(lightest) if self.weight_at(lightest) <= self.weight_at(i) => Some(lightest),
             _ => Some(i),
@@ -68,9 +66,10 @@ impl<'a> Weighted<'a> {
         ensures { LightestBelow (weights self.now.core.now (at self.now.price.now)) (flag members.now) 80 result }
     {
         let mut found = None;
-        // A loop by numbers: of a filtered range whose `min_by_key` is None it was not proved that each number fails the test.
-        for i in 0..WIDTH {
-            found = self.lighter(members, found, i);
+        for (i, member) in members.iter().enumerate() {
+            if *member {
+                found = self.lighter(members, found, i);
+            }
         }
         found
     }
