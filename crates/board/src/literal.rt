@@ -7,7 +7,8 @@ use super::words::Literal;
 // Numbers from here on are read as this one: no sheet has that many parts.
 pub const MOST: usize = 1000;
 
-// The number that the bytes write, or MOST where that is larger, if there are any and all are digits.
+// The number that the bytes write, or MOST where that is larger, if there are any and all are digits. A loop and no
+// `parse`, which takes a `+` and refuses a number that is too large.
 pub fn numeral(bytes: &[u8]) -> Option<usize>
     ensures { Numeral bytes.now result }
 {
@@ -34,7 +35,8 @@ fn part_number(word: &[u8]) -> Option<usize>
     }
 }
 
-// The literal that the word is: x or -x, and then digits.
+// The literal that the word is: x or -x, and then digits. An Option and no `TryFrom`: there is nothing to tell of a word
+// that is none.
 pub fn literal(word: &[u8]) -> Option<Literal>
     ensures { Says word.now result }
 {

@@ -1,4 +1,4 @@
-// A table that has the layout, made where `check` has passed it, and its rows.
+// A table that has the layout, made where `check` has passed it, and its rows. The words are a slice, as callers hold them.
 ghost use Rattle.std.specs.Prelude.{◌≡◌, ℕ, ◌<◌, length};
 ghost use Rattle.table.specs.Layout.{Fine};
 
