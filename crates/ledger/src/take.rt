@@ -10,7 +10,7 @@ use table::checked::Checked;
 use table::{WORDS, check};
 
 impl Sheet {
-    // The sheet of a table that has the layout.
+    // The sheet of a table that has the layout. It has a name of its own: a `TryFrom` would be a second name for one call.
     pub fn from_table(table: &[i32]) -> Result<Sheet, RunFault>
         ensures { Taken table.now result }
     {

@@ -25,7 +25,7 @@ pub fn any_opposes(a: &[Mark; 80], b: &[Mark; 80], depth: usize) -> bool
     a.iter().zip(b).take(depth).any(|(a, b)| opposes(*a, *b))
 }
 
-// The coefficient of the literal that a mark makes false.
+// The coefficient of the literal that a mark makes false: three cases and three numbers, which no call says shorter.
 fn refuting(mark: Mark) -> i32
     ensures { result ≡ refuted mark }
 {

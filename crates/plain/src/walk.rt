@@ -1,4 +1,5 @@
-// Where a search stands: the marks of the first variables.
+// Where a search stands: the marks of the first variables. The depth is not the length of a buffer: marks past it are free,
+// and all eighty are read as an array.
 ghost use Rattle.std.specs.Prelude.{◌≡◌, ◌≤◌, length};
 
 use rules::Mark;

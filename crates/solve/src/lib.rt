@@ -48,6 +48,7 @@ pub fn load<H: RuleHolder, E: Engine>(holder: &H, engine: &mut E) -> Result<(), 
     ensures sound { result ≡ Ok tt → E.Engine.sound engine.new }
 {
     engine.begin(holder.variables())?;
+    // a holder is asked rule by rule, and has no iterator
     for k in 0..holder.rules() {
         let rule = holder.rule(k)?;
         let terms = terms_of(&rule.coefficients);
