@@ -1,6 +1,8 @@
 // A line of a list of cores.
-ghost use Rattle.std.specs.Prelude.{Some};
+ghost use Rattle.std.specs.Prelude.{◌≡◌, ℕ, ◌<◌, Some, IfOk};
+ghost use Rattle.rules.specs.Rule.{at};
 ghost use Rattle.core_text.specs.Words.{line_error_words};
+ghost use Rattle.core_text.specs.Lines.{ReadsRow, ReadsLine};
 
 use arrayvec::ArrayVec;
 use rules::term::Rule;
@@ -41,7 +43,9 @@ pub struct Row {
 
 impl Row {
     // The whole row.
-    pub fn places(&self) -> [i32; 80] {
+    pub fn places(&self) -> [i32; 80]
+        ensures { (i : ℕ) → i < 80 → at result i ≡ at self.now.numbers.items i }
+    {
         array::from_fn(|i| self.numbers.get(i).copied().unwrap_or(0))
     }
 }
@@ -49,6 +53,8 @@ impl Row {
 // Numbers with a comma between each two.
 impl FromStr for Row {
     type Err = LineError;
+
+    ghost from_str_gives = { λ text r. IfOk r (λ row. ReadsRow text row.numbers.items) };
 
     fn from_str(list: &str) -> Result<Row, LineError> {
         let mut numbers = ArrayVec::new();
@@ -71,6 +77,8 @@ pub struct Line<'a> {
 // Coefficients, the degree and weights, a tabulator after each, and the rest.
 impl<'a> TryFrom<&'a str> for Line<'a> {
     type Error = LineError;
+
+    ghost try_from_gives = { λ text r. IfOk r (ReadsLine text.now) };
 
     fn try_from(line: &'a str) -> Result<Line<'a>, LineError> {
         let (coefficients, after) = line.split_once('\t').ok_or(LineError::Short)?;

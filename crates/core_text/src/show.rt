@@ -1,4 +1,6 @@
 // Rows, literals and rules as text.
+ghost use Rattle.std.specs.Prelude.{Some};
+ghost use Rattle.core_text.specs.Words.{terms_words, rule_words, literals_words, numbers_words};
 
 use rules::term::{Literal, Rule, Term};
 use std::fmt;
@@ -8,6 +10,8 @@ use std::fmt;
 pub struct Terms<'a>(pub &'a [i32; 80]);
 
 impl<'a> fmt::Display for Terms<'a> {
+    ghost output = { λ t. Some (terms_words t.0.now) };
+
     fn fmt<W: fmt::Write>(&self, f: &mut fmt::Formatter<W>) -> fmt::Result {
         let mut between = "";
         for (variable, coefficient) in self.0.iter().enumerate() {
@@ -35,6 +39,8 @@ impl<'a> fmt::Display for Terms<'a> {
 pub struct Written<'a>(pub &'a Rule);
 
 impl<'a> fmt::Display for Written<'a> {
+    ghost output = { λ w. Some (rule_words w.0.now) };
+
     fn fmt<W: fmt::Write>(&self, f: &mut fmt::Formatter<W>) -> fmt::Result {
         let terms = Terms(&self.0.coefficients);
         let degree = self.0.degree;
@@ -50,14 +56,16 @@ pub struct Literals<'a> {
 }
 
 impl<'a> fmt::Display for Literals<'a> {
+    ghost output = { λ l. Some (literals_words l.row.now l.members.now) };
+
     fn fmt<W: fmt::Write>(&self, f: &mut fmt::Formatter<W>) -> fmt::Result {
         let Literals { row, members } = *self;
         let mut between = "";
-        for (variable, (coefficient, member)) in row.iter().zip(members).enumerate() {
+        for (variable, member) in members.iter().enumerate() {
             if *member {
                 let literal = Literal {
                     variable,
-                    negated: *coefficient < 0,
+                    negated: row[variable] < 0,
                 };
                 write!(f, "{between}{literal}")?;
                 between = " ";
@@ -72,6 +80,8 @@ impl<'a> fmt::Display for Literals<'a> {
 pub struct Numbers<'a>(pub &'a [i32; 80]);
 
 impl<'a> fmt::Display for Numbers<'a> {
+    ghost output = { λ n. Some (numbers_words n.0.now) };
+
     fn fmt<W: fmt::Write>(&self, f: &mut fmt::Formatter<W>) -> fmt::Result {
         let mut between = "";
         for (variable, coefficient) in self.0.iter().enumerate() {
