@@ -5,6 +5,7 @@
 #![tactic(auto)]
 
 use anyhow::anyhow;
+use faults::fault::RunFault;
 use finder::find;
 use finder::found::{Finding, Found};
 use ledger::state::Sheet;
@@ -28,33 +29,34 @@ fn main(rt: HostRuntime) -> anyhow::Result<()> {
 
 fn run(rt: &HostRuntime) -> anyhow::Result<()> {
     let words: Vec<String> = env::args(rt)?.skip(1).collect(rt.alloc())?;
-    let allowance = match words.as_slice() {
-        [] => STEPS,
-        [word] => match word.as_str().parse::<u64>() {
-            Ok(steps) => steps,
-            Err(_) => {
-                println!(rt; "{USAGE}")?;
-                return Ok(());
-            }
-        },
-        _ => {
-            println!(rt; "{USAGE}")?;
-            return Ok(());
-        }
+    let Some(allowance) = allowance(words.as_slice()) else {
+        println!(rt; "{USAGE}")?;
+        return Ok(());
     };
     let mut text: Vec<u8> = Vec::new(rt.alloc());
     rt.stdin().read_to_end(&mut text)?;
     look(rt, text.as_slice(), allowance)
 }
 
+// The steps that the words allow, where they are no more than one number.
+fn allowance(words: &[String]) -> Option<u64> {
+    match words {
+        [] => Some(STEPS),
+        [word] => word.as_str().parse::<u64>().ok(),
+        _ => None,
+    }
+}
+
+// The sheet of a text.
+fn sheet_of(text: &[u8]) -> Result<Sheet, RunFault> {
+    let mut table = [0i32; WORDS];
+    sheet::read(text, &mut table)?;
+    Sheet::from_table(&table)
+}
+
 // Reads the sheet and prints what is found.
 fn look(rt: &HostRuntime, text: &[u8], allowance: u64) -> anyhow::Result<()> {
-    let mut table = [0i32; WORDS];
-    let read = match sheet::read(text, &mut table) {
-        Ok(()) => Sheet::from_table(&table),
-        Err(fault) => Err(fault),
-    };
-    match read {
+    match sheet_of(text) {
         Ok(sheet) => tell(rt, &sheet, find(&sheet, &mut Plain::new(), allowance)),
         Err(fault) => {
             rt.print(refused_sheet(rt.alloc(), text, fault)?)?;

@@ -44,7 +44,7 @@ impl RuleHolder for Sheet {
         if k >= table.rules() {
             return Err(EngineFault::Rule(k));
         }
-        Ok(rule_at(&table, k))
+        Ok(rule_at(&table.row(k)))
     }
 
     fn add(&mut self, terms: &[Term], degree: u32) -> Result<(), EngineFault> {
@@ -71,7 +71,7 @@ impl RuleHolder for Sheet {
         (0..table.rules()).find(
             |&k|
                 requires { k < 64 }
-            { breaks(&table, k, marks) },
+            { breaks(&table.row(k), marks) },
         )
     }
 }

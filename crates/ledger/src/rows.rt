@@ -10,39 +10,32 @@ use rules::Mark;
 use rules::reach::sum_left;
 use rules::term::Rule;
 use std::array;
-use table::checked::Checked;
+use table::checked::Row;
 use table::{PARTS, ROW, RULES};
 
-// The coefficient of a variable in the row of this index: 0 past the parts.
-fn coefficient_at(table: &Checked, k: usize, variable: usize) -> i32
-    requires { k < 64 }
-    ensures { result ≡ coefficient_at table.now.words.now k variable }
+// The coefficient of a variable in a row: 0 past the parts.
+fn coefficient_at(row: &Row, variable: usize) -> i32
+    ensures { result ≡ coefficient_at row.now.sheet.words.now row.now.number variable }
 {
-    if variable < PARTS {
-        table.coefficient(k, variable)
-    } else {
-        0
-    }
+    row.coefficients().get(variable).copied().unwrap_or(0)
 }
 
-// The row of this index as a rule.
-pub fn rule_at(table: &Checked, k: usize) -> Rule
-    requires { k < 64 }
-    ensures { result ≡ rule_at table.now.words.now k }
+// A row as a rule.
+pub fn rule_at(row: &Row) -> Rule
+    ensures { result ≡ rule_at row.now.sheet.words.now row.now.number }
 {
     Rule {
-        coefficients: array::from_fn(|part| coefficient_at(table, k, part)),
-        degree: table.degree(k),
+        coefficients: array::from_fn(|variable| coefficient_at(row, variable)),
+        degree: row.degree(),
     }
 }
 
-// Whether the marks break the rule of this index.
-pub fn breaks(table: &Checked, k: usize, marks: &[Mark; 80]) -> bool
-    requires { k < 64 }
-    ensures { Decides result (BreaksRule (parts_of table.now.words.now) (rule_at table.now.words.now k) (marked marks.now)) }
+// Whether the marks break the rule of a row.
+pub fn breaks(row: &Row, marks: &[Mark; 80]) -> bool
+    ensures { Decides result (BreaksRule (parts_of row.now.sheet.words.now) (rule_at row.now.sheet.words.now row.now.number) (marked marks.now)) }
 {
-    let rule = rule_at(table, k);
-    sum_left(&rule.coefficients, marks, table.parts()) < u64::from(rule.degree)
+    let rule = rule_at(row);
+    sum_left(&rule.coefficients, marks, row.sheet.parts()) < u64::from(rule.degree)
 }
 
 // Writes a rule into the row of this index.

@@ -7,6 +7,7 @@ use Rattle.rules.specs.Terms.{only}
 use Rattle.rules.specs.declared.Mark.{Mark}
 use Rattle.rules.specs.declared.Mark.TheVariants.{Free, Zero, One}
 use Rattle.rules.specs.declared.term.Literal.{Literal}
+use Rattle.rules.specs.declared.term.Rule.{Rule as Row}
 use Rattle.engine.specs.Questions.{posed, WithinPledge, GoodLiteral, Solution, Answered}
 use Rattle.engine.specs.Held.{Every}
 use Rattle.engine.specs.declared.answer.Answer.{Answer}
@@ -22,9 +23,10 @@ use Rattle.backtrack.proofs.Passing.{exhausted_start, exhausted_deeper, exhauste
 use Rattle.backtrack.proofs.Left.{left_deeper, left_turned, left_within}
 use Rattle.backtrack.proofs.Ends.{dead_by_rule, dead_by_literal, solution_here, clause_refutes}
 use Rattle.plain.specs.Ready.{Ready, at_walk}
-use Rattle.plain.specs.Steps.{BrokenNow, Deepened, Turned, Searched, After, question_of, asked_by}
+use Rattle.plain.specs.Steps.{BrokenNow, Deepened, Turned, Reaches, Searched, IsClause, After, question_of, asked_by}
 use Rattle.plain.specs.declared.walk.Walk.{Walk}
 use Rattle.plain.specs.declared.search.Search.{Search}
+use Rattle.plain.specs.declared.search.Reached.TheVariants.{Solved, Ended}
 use Rattle.plain.specs.declared.state.Plain.{Plain}
 
 -- ---- questions
@@ -141,8 +143,9 @@ module _ (s : Store) (x : Search) (r : Ready s x.assumed x.walk) where
         (none_left (held_in s) (assumed_in x.assumed) s.variables (at_walk x.walk) x.walk.depth r.path refl (no_zero m.2) (dead m.1) r.exhausted);
   }
 
--- an answer that does not go on closes the search
-pub closed : (a : Answer) (y : Search) → (a ≡ Going → ⊥) → After a y None
-closed Going y other = absurd (other refl)
-closed (Yes ms) y other = refl
-closed (No c) y other = refl
+-- where a search is solved its marks are the answer, and where it has ended its clause is
+pub yes : (s : Store) (x y : Search) → Reaches s x Solved y → Searched s x (Yes y.walk.marks) y
+yes s x y r = (r.0, r.1, ap (λ (z : Search). z.walk.marks) r.2)
+
+pub no : (s : Store) (x y : Search) (c : Row) → Reaches s x Ended y → IsClause y c → Searched s x (No c) y
+no s x y c r k = (subst (λ z. IsClause z c) r.2 k, r.0, r.1)

@@ -16,6 +16,8 @@ use Rattle.rules.specs.declared.Mark.TheVariants.{Zero}
 use Rattle.engine.specs.Questions.{Question, none, posed}
 use Rattle.plain.specs.Ready.{at_walk}
 use Rattle.plain.specs.declared.search.Search.{Search}
+use Rattle.plain.specs.declared.search.Reached.{Reached}
+use Rattle.plain.specs.declared.search.Reached.TheVariants.{Onward, Solved, Ended}
 use Rattle.plain.specs.declared.state.Plain.{Plain}
 
 -- the question that is open, with a step for each node of the tree that is left
@@ -81,6 +83,13 @@ pub record Turned (s : Store) (x y : Search) : Type 0 where
 pub record IsClause (x : Search) (r : Row) : Type 0 where
   pub coefficients : (v : ℕ) → coefficient r v ≡ refuted (marked x.assumed.marks v)
   pub degree : r.degree ≡ 1
+
+-- by what is reached: on it goes by one of these, and assumes the same; nothing is broken and all variables are marked; or
+-- something is broken and no 0 is left
+abbrev pub Reaches : Store → Search → Reached → Search → Type 0
+Reaches s x Onward y = (y.assumed ≡ x.assumed) × (Deepened s x y ⊎ Turned s x y)
+Reaches s x Solved y = Unbroken s x × (s.variables ≤ x.walk.depth) × (y ≡ x)
+Reaches s x Ended y = BrokenNow s x × ((j : ℕ) → j < x.walk.depth → at_walk x.walk j ≢ Zero) × (y ≡ x)
 
 -- by the answer: on it goes by one of these, and assumes the same; yes gives the marks as they are, all variables being
 -- marked; no comes where no 0 is left, by the clause

@@ -3,14 +3,14 @@ ghost use Rattle.std.specs.Prelude.{◌≡◌, ℕ, ◌+◌, ◌^◌, ◌<◌, �
 ghost use Rattle.engine.specs.Questions.{engine_limits, empty, none, Stepped};
 ghost use Rattle.store.specs.View.{held_in};
 ghost use Rattle.plain.specs.Ready.{at_walk};
-ghost use Rattle.plain.specs.Steps.{Adds, BrokenHere, Searched, Walked, asked_by};
+ghost use Rattle.plain.specs.Steps.{Adds, BrokenHere, IsClause, Reaches, Walked, asked_by};
 ghost use Rattle.store.proofs.Views.{held_fits};
 ghost use Rattle.std.proofs.Common.{rules};
 ghost use Rattle.rules.specs.declared.Mark.TheVariants.{Free};
 ghost use Rattle.plain.specs.Stepping;
 
 use super::moves::{any_opposes, clause_row};
-use super::search::Search;
+use super::search::{Reached, Search};
 use super::state::Plain;
 use super::walk::Walk;
 use engine::answer::Answer;
@@ -57,25 +57,32 @@ impl Search {
     }
 
     // One step: back to the last 0 where something is broken, else on to the next variable.
-    fn step(&mut self, store: &Store) -> Answer
-        ensures { Searched store.now self.old result self.new }
+    fn step(&mut self, store: &Store) -> Reached
+        ensures { Reaches store.now self.old result self.new }
     {
         if self.is_broken(store) {
             match self.walk.last_zero() {
                 Some(t) => {
                     self.walk.turn(t);
-                    Answer::Going
+                    Reached::Onward
                 }
-                None => Answer::No(Rule {
-                    coefficients: clause_row(&self.assumed.marks),
-                    degree: 1,
-                }),
+                None => Reached::Ended,
             }
         } else if self.walk.depth < store.variables {
             self.walk.deepen();
-            Answer::Going
+            Reached::Onward
         } else {
-            Answer::Yes(self.walk.marks)
+            Reached::Solved
+        }
+    }
+
+    // The clause of all assumed literals' complements.
+    fn clause(&self) -> Rule
+        ensures { IsClause self.now result }
+    {
+        Rule {
+            coefficients: clause_row(&self.assumed.marks),
+            degree: 1,
         }
     }
 }
@@ -172,12 +179,12 @@ impl Engine for Plain {
         let Some(search) = &mut self.asking else {
             return Err(EngineFault::NoQuestion);
         };
-        match search.step(store) {
-            Answer::Going => Ok(Answer::Going),
-            answer => {
-                self.asking = None;
-                Ok(answer)
-            }
-        }
+        let answer = match search.step(store) {
+            Reached::Onward => return Ok(Answer::Going),
+            Reached::Solved => Answer::Yes(search.walk.marks),
+            Reached::Ended => Answer::No(search.clause()),
+        };
+        self.asking = None;
+        Ok(answer)
     }
 }

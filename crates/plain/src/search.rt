@@ -7,6 +7,14 @@ ghost use Rattle.plain.specs.Ready.{at_walk};
 use super::walk::Walk;
 use store::assumed::Assumed;
 
+// What a step of a search comes to: it goes on, its marks are a solution, or every marking is passed.
+#[derive(Clone, Copy)]
+pub enum Reached {
+    Onward,
+    Solved,
+    Ended,
+}
+
 #[derive(Drop)]
 pub struct Search {
     pub assumed: Assumed,

@@ -11,7 +11,7 @@ use ask::{Asked, ask};
 use engine::asked::Engine;
 use engine::holder::RuleHolder;
 use faults::fault::EngineFault;
-use rules::term::{Literal, Term, WIDTH};
+use rules::term::{Literal, Term};
 
 // The term of a variable with this coefficient.
 fn term_of(variable: usize, coefficient: i32) -> Term
@@ -33,10 +33,9 @@ pub fn terms_of(row: &[i32; 80]) -> ArrayVec<Term, 80>
     ensures { Lists row.now result.items }
 {
     let mut terms = ArrayVec::new();
-    // the index is the variable of the term
-    for i in 0..WIDTH {
-        if row[i].unsigned_abs() > 0 {
-            terms.push(term_of(i, row[i]));
+    for (variable, coefficient) in row.iter().enumerate() {
+        if coefficient.unsigned_abs() > 0 {
+            terms.push(term_of(variable, *coefficient));
         }
     }
     terms

@@ -6,8 +6,8 @@ use Rattle.ledger.proofs.rows.rule_at.Goals as goal
 
 pub returns : goal.returns
 returns c =
-    let T = c.args.table.now.words.now in
-    let k = c.args.k in
+    let T = c.args.row.now.sheet.words.now in
+    let k = c.args.row.now.number in
     let row : c.from_fn.result ≡ row_at T k = row_is T k c.from_fn.result c.from_fn.ensures.items.long
     (λ i b. made _ _ (coefficient_at T k) _ (pos 0) 80 c.from_fn.ensures.items (λ j y q l call. (search rules, search rules)) i b) in
     let degree = c.degree.ensures.value in

@@ -16,4 +16,5 @@ returns c =
     let k = c.args.k in
     let same = ap rules_of c.checked-table.ensures in
     let there : k < rules_of T = omega (arith, c.rules.ensures.value, c.if-k-rules.false) in
-    (omega (arith, count_held T), c.rule_at.ensures ∙ (ap (λ X. rule_at X k) c.checked-table.ensures ∙ sym (nth_held T k there)))
+    let row = c.row.ensures in
+    (omega (arith, count_held T), c.rule_at.ensures ∙ (ap (λ X. rule_at X c.row.result.number) (row.0 ∙ c.checked-table.ensures) ∙ (ap (rule_at T) row.1 ∙ sym (nth_held T k there))))
