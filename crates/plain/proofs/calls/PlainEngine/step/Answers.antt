@@ -30,10 +30,10 @@ returns c =
     let y = c.step.new.self in
     let a = c.match-step.answer in
     let said : Searched p.store x a y × After a y None =
-        elim c.match-step.branch [
-          | in-Solved w ↦ subst (λ z. Searched p.store x z y × After z y None) (sym w.answer-is) (yes p.store x y w.in-Solved.ensures, refl)
-          | in-Ended w ↦ subst (λ z. Searched p.store x z y × After z y None) (sym w.answer-is) (no p.store x y _ w.in-Ended.ensures w.clause.ensures, refl)
-        ] in
+    elim c.match-step.branch [
+      | in-Solved w ↦ subst (λ z. Searched p.store x z y × After z y None) (sym w.answer-is) (yes p.store x y w.in-Solved.ensures, refl)
+      | in-Ended w ↦ subst (λ z. Searched p.store x z y × After z y None) (sym w.answer-is) (no p.store x y _ w.in-Ended.ensures w.clause.ensures, refl)
+    ] in
     record {
       stepped = (refl, subst (λ o. Answered (held_in p.store) (question_of p.store o) a none) (sym c.in-Some.is) (answered p.store x (ready p x c.in-Some.is) a y None said.0 said.1));
       walked = (x, y, c.in-Some.is, said.0, said.1);
