@@ -45,15 +45,25 @@ impl Judgement {
     }
 }
 
+impl Trouble {
+    // What is wrong, in words.
+    pub fn words(self) -> &'static str
+        ensures { result.now ≡ trouble_words self }
+    {
+        match self {
+            Trouble::NotALiteral => "is not a literal",
+            Trouble::NoSuchPart => "names a part that the sheet does not declare",
+            Trouble::NamedTwice => "names a part that an earlier word has named",
+        }
+    }
+}
+
 impl fmt::Display for Trouble {
     ghost output = { λ t. Some (trouble_words t) };
 
     fn fmt<W: fmt::Write>(&self, f: &mut fmt::Formatter<W>) -> fmt::Result {
-        match self {
-            Trouble::NotALiteral => write!(f, "is not a literal"),
-            Trouble::NoSuchPart => write!(f, "names a part that the sheet does not declare"),
-            Trouble::NamedTwice => write!(f, "names a part that an earlier word has named"),
-        }
+        let words = self.words();
+        write!(f, "{words}")
     }
 }
 
