@@ -1,7 +1,5 @@
 -- Words that are made from others, and what is summed of them.
 use Rattle.std.proofs.Common.{◌≡◌, ℕ, suc, ◌+◌, ◌*◌, ◌<◌, ◌≤◌, List, [], ◌∷◌, ◌++◌, map, length, get_or, take, drop, set, sum, ℤ, pos, negsuc, nat_abs, sym, refl, ap, ◌∙◌, append_assoc, arith, ◌-ℤ◌, neg_ℤ, w32, SFits, to_z, of_z}
-use Rattle.std.specs.Iterator.{Yields}
-use Rattle.std.specs.Array.{list_steps}
 use Rattle.std.proofs.lemmas.Int.{ints}
 use Rattle.std.proofs.lemmas.List.{take_more_set, drop-set-lt}
 use Rattle.std.proofs.lemmas.List.Sums.{sum-map}
@@ -15,11 +13,6 @@ mapped h [] (y ∷ ys) d e f = absurd (omega arith)
 mapped h (x ∷ xs) [] d e f = absurd (omega arith)
 mapped h (x ∷ xs) (y ∷ ys) d e f =
     ap (λ (z : ℤ). z ∷ ys) (f 0 (omega arith)) ∙ ap (λ (zs : List ℤ). h x ∷ zs) (mapped h xs ys d (omega arith) (λ i l. f (suc i) (omega arith)))
-
--- the word that comes after those of xs stands at their number
-pub word_at : (ws xs t : List ℤ) (x : ℤ) (u : List ℤ) → Yields list_steps ws xs t → t ≡ x ∷ u → get_or ws (length xs) (pos 0) ≡ x
-word_at ws [] t x u y e = ap (λ (zs : List ℤ). get_or zs 0 (pos 0)) (y ∙ e)
-word_at ws (z ∷ xs) t x u (j, s, y) e = ap (λ (zs : List ℤ). get_or zs (suc (length xs)) (pos 0)) s ∙ word_at j xs t x u y e
 
 -- a word whose sign is turned
 pub negated : (z : ℤ) → nat_abs z ≤ 100000000 → to_z w32 (of_z w32 (pos 0 -ℤ to_z w32 (of_z w32 z))) ≡ neg_ℤ z

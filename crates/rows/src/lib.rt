@@ -10,6 +10,7 @@ pub mod normal;
 
 use lines::line::{Comparison, MOST_PARTS, Parts, Rule, Sum};
 use normal::AtLeast;
+use std::array;
 
 // The words of a table.
 pub const WORDS: usize = 2668;
@@ -40,10 +41,11 @@ pub fn coefficients(sum: &Sum) -> [i32; MOST_PARTS]
     words_of(&sum.terms)
 }
 
+// `map` goes over an array three times, `from_fn` once
 fn words_of(terms: &[Option<i32>; MOST_PARTS]) -> [i32; MOST_PARTS]
     ensures { result ≡ map given terms.now }
 {
-    terms.map(given)
+    array::from_fn(|i| given(terms[i]))
 }
 
 // Writes forty words from this place on.

@@ -4,6 +4,7 @@ ghost use Rattle.rows.specs.Rows.{words, turn, below, negatives, floored, at_lea
 
 use super::{FRONT_WORDS, ROW_WORDS, WORDS};
 use lines::line::{MOST_PARTS, Sum};
+use std::array;
 
 // The coefficients of a sum, a word for each part, of at most a million in size.
 #[derive(Clone, Copy)]
@@ -41,7 +42,7 @@ impl Coefficients {
     fn turned_words(&self) -> [i32; MOST_PARTS]
         ensures { result ≡ turn self.now.words }
     {
-        self.words.map(|word| -word)
+        array::from_fn(|i| -self.words[i])
     }
 
     // The same coefficients with every sign turned.

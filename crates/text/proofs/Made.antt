@@ -1,13 +1,11 @@
 -- The tokens that the reader makes: what it has passed, and what the bytes since then say.
-use Rattle.std.proofs.Common.{◌≡◌, ℕ, ◌+◌, ◌<◌, ◌≤◌, Bool, List, length, Ok, sym, refl, ap, ◌∙◌, arith}
+use Rattle.std.proofs.Common.{◌≡◌, ℕ, ◌+◌, ◌<◌, ◌≤◌, Bool, List, length, Ok, sym, ap, ◌∙◌, arith}
 use Rattle.std.specs.List.{between}
 use Rattle.forms.specs.Forms.{got}
-use Rattle.text.specs.declared.reader.Limit.{Limit}
 use Rattle.text.specs.declared.reader.Reader.{Reader}
-use Rattle.text.specs.declared.reader.Token.{Token}
 use Rattle.text.specs.Bytes.{decimal, signed, number_of, index_of}
-use Rattle.text.specs.Tokens.{Byte, Digits, Minus, Number, Name, limited}
-use Rattle.text.specs.Reading.{Step, number_said, written, IsNumber}
+use Rattle.text.specs.Tokens.{Byte, Digits, Minus, Number, Name}
+use Rattle.text.specs.Reading.{Step}
 use Rattle.text.proofs.Progress.{onward_byte, onward_digits, forward_minus}
 use Rattle.text.proofs.Shown.{number_shown, name_shown}
 use Rattle.text.proofs.Steps.{step_goes, step_give, step_from}
@@ -45,7 +43,3 @@ module _ (r s u : Reader) (b : List ℕ) (digits : Step (λ t. Digits t r.at) s 
       let same : decimal (between s.at u.at s.text.now) ≡ decimal (between (r.at + 1) u.at r.text.now) = cc (next, f.same) in
       let n : Step (λ t. Digits t r.at) s u (Ok (index_of b)) = rw (e ∙ sym same) digits in
       step_from _ _ _ _ (step_goes _ _ _ _ _ _ _ f n)
-
--- a number token says its number, within its limits
-pub said : (l : Limit) (t : Token) → IsNumber t → number_said l t ≡ limited l t.at (written t)
-said l t h = rw h refl

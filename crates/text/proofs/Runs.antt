@@ -1,8 +1,6 @@
 -- Runs of bytes: there is one from each place, and only one.
 use Rattle.std.proofs.Common.{◌≡◌, ℕ, zero, suc, ◌+◌, ◌-◌, ◌<◌, ◌≤◌, Bool, true, false, ltb, List, length, get_or, drop, sym, refl, ap, ◌∙◌, subst, arith}
-use Rattle.std.specs.List.{prefix_len}
 use Rattle.std.proofs.lemmas.List.{get_or-drop, length-drop}
-use Rattle.std.proofs.lemmas.List.Sums.{prefix_len_passes, prefix_len_stops, prefix_len-le-length}
 use Rattle.forms.proofs.Exactness.{both}
 use Rattle.text.specs.declared.reader.Class.{Class}
 use Rattle.text.specs.Bytes.{belongs, sees, Run}
@@ -60,36 +58,35 @@ run_some text c from le = run_within text c (suc (length text - from)) from le (
 
 -- as many bytes from there on as are of the class
 module _ (c : Class) (text : List ℕ) (from : ℕ) (le : from ≤ length text) where
-  front : ℕ
-  front = prefix_len (belongs c) (drop from text)
-
   inside : (i : ℕ) (b : Bool) → i < length text → belongs c (get_or text i 0) ≡ b → sees text c i ≡ b
   inside i b l e = grind arith
 
-  within_front : front ≤ length text - from
-  unfolding front
-  within_front = omega (arith, prefix_len-le-length (belongs c) (drop from text), length-drop from text)
-
-  passed : (i : ℕ) → from ≤ i → i < from + front → sees text c i ≡ true
-  unfolding front
-  passed i h l =
+  at_place : (i : ℕ) (b : Bool) → from ≤ i → i < length text → belongs c (get_or (drop from text) (i - from) 0) ≡ b → sees text c i ≡ b
+  at_place i b h l e =
       let k : from + (i - from) ≡ i = omega arith in
-      let p = prefix_len_passes (belongs c) (drop from text) (i - from) 0 (omega arith) in
-      inside i true (omega (arith, within_front)) (subst (λ (j : ℕ). belongs c (get_or text j 0) ≡ true) k (sym (ap (belongs c) (get_or-drop from text (i - from) 0)) ∙ p))
+      inside i b l (subst (λ (j : ℕ). belongs c (get_or text j 0) ≡ b) k (sym (ap (belongs c) (get_or-drop from text (i - from) 0)) ∙ e))
 
-  ended : (b : Bool) → ltb (from + front) (length text) ≡ b → sees text c (from + front) ≡ false
-  unfolding front
-  ended true p =
-      let l : from + front < length text = grind arith in
-      let q = prefix_len_stops (belongs c) (drop from text) 0 (omega (arith, l, length-drop from text)) in
-      inside (from + front) false l (sym (ap (belongs c) (get_or-drop from text front 0)) ∙ q)
-  ended false p = grind arith
+  module _ (n : ℕ) (rest : List ℕ) (is : rest ≡ drop from text) (short : n ≤ length rest) (all_of : (i : ℕ) → i < n → belongs c (get_or rest i 0) ≡ true) (stops_at : n < length rest → belongs c (get_or rest n 0) ≡ false) where
+    within : n ≤ length (drop from text)
+    within = subst (λ (bs : List ℕ). n ≤ length bs) is short
 
-  pub run_front : (n : ℕ) → n ≡ prefix_len (belongs c) (drop from text) → Run c text from (from + n)
-  unfolding front
-  run_front n e = subst (λ (k : ℕ). Run c text from (from + k)) (sym e) (record {
-    forward = omega arith;
-    within = omega (arith, within_front);
-    all = passed;
-    stops = ended (ltb (from + front) (length text)) refl;
-  })
+    all : (i : ℕ) → i < n → belongs c (get_or (drop from text) i 0) ≡ true
+    all = subst (λ (bs : List ℕ). (i : ℕ) → i < n → belongs c (get_or bs i 0) ≡ true) is all_of
+
+    stops : n < length (drop from text) → belongs c (get_or (drop from text) n 0) ≡ false
+    stops = subst (λ (bs : List ℕ). n < length bs → belongs c (get_or bs n 0) ≡ false) is stops_at
+
+    ended : (b : Bool) → ltb (from + n) (length text) ≡ b → sees text c (from + n) ≡ false
+    ended true p =
+        let l : from + n < length text = grind arith in
+        let k : from + n - from ≡ n = omega arith in
+        at_place (from + n) false (omega arith) l (subst (λ (j : ℕ). belongs c (get_or (drop from text) j 0) ≡ false) (sym k) (stops (omega (arith, l, length-drop from text))))
+    ended false p = grind arith
+
+    pub run_front : Run c text from (from + n)
+    run_front = record {
+      forward = omega arith;
+      within = omega (arith, within, length-drop from text);
+      all = λ i h l. at_place i true h (omega (arith, within, length-drop from text)) (all (i - from) (omega arith));
+      stops = ended (ltb (from + n) (length text)) refl;
+    }

@@ -4,11 +4,10 @@ use Rattle.std.specs.List.{between}
 use Rattle.faults.specs.declared.fault.TextFault.{TextFault}
 use Rattle.faults.specs.declared.fault.TextFault.TheVariants.{Misplaced}
 use Rattle.forms.specs.Forms.{Form, outcome}
-use Rattle.text.specs.declared.reader.Kind.{Kind}
-use Rattle.text.specs.declared.reader.Kind.TheVariants.{Number, Name, Sign}
 use Rattle.text.specs.declared.reader.Limit.{Limit}
 use Rattle.text.specs.declared.reader.Reader.{Reader}
 use Rattle.text.specs.declared.reader.Token.{Token}
+use Rattle.text.specs.declared.reader.Token.TheVariants.{Number, Name, Sign}
 use Rattle.text.specs.Bytes.{number_of, index_of}
 use Rattle.text.specs.Tokens.{limited}
 
@@ -27,43 +26,51 @@ abbrev pub seen : {A B E : Type 0} → (A → B) → Result A E → Result B E
 seen f (Ok a) = Ok (f a)
 seen f (Err e) = Err e
 
+-- where a token stands, and the bytes that it shows
+abbrev pub place : Token → ℕ
+place (Number at bytes) = at
+place (Name at bytes) = at
+place (Sign at bytes) = at
+
+abbrev pub shown : Token → List ℕ
+shown (Number at bytes) = bytes.now
+shown (Name at bytes) = bytes.now
+shown (Sign at bytes) = bytes.now
+
 -- the token begins where the reader stood and shows the bytes up to where the reader now stands
 abbrev pub Covers : Reader → Reader → Result Token TextFault → Type 0
-Covers r s (Ok t) = (t.at ≡ r.at) × (t.bytes.now ≡ between r.at s.at r.text.now)
+Covers r s (Ok t) = (place t ≡ r.at) × (shown t ≡ between r.at s.at r.text.now)
 Covers r s (Err e) = Unit {0}
 
 -- the number that a token writes, within its limits; no other token can stand for one
-abbrev pub number_from : Kind → Limit → ℕ → List ℕ → Result ℤ TextFault
-number_from Number l at bs = limited l at (number_of bs)
-number_from Name l at bs = Err (Misplaced at)
-number_from Sign l at bs = Err (Misplaced at)
-
 abbrev pub number_said : Limit → Token → Result ℤ TextFault
-number_said l t = number_from t.kind l t.at t.bytes.now
+number_said l (Number at bytes) = limited l at (number_of bytes.now)
+number_said l (Name at bytes) = Err (Misplaced at)
+number_said l (Sign at bytes) = Err (Misplaced at)
 
 -- the part that a token names; none, 0, for any other token
-abbrev pub index_from : Kind → List ℕ → ℕ
-index_from Number bs = 0
-index_from Name bs = index_of bs
-index_from Sign bs = 0
-
 abbrev pub index_said : Token → ℕ
-index_said t = index_from t.kind t.bytes.now
+index_said (Number at bytes) = 0
+index_said (Name at bytes) = index_of bytes.now
+index_said (Sign at bytes) = 0
 
 -- the integer that a number token writes
-abbrev pub written_from : Kind → List ℕ → ℤ
-written_from Number bs = number_of bs
-written_from Name bs = pos 0
-written_from Sign bs = pos 0
-
 abbrev pub written : Token → ℤ
-written t = written_from t.kind t.bytes.now
+written (Number at bytes) = number_of bytes.now
+written (Name at bytes) = pos 0
+written (Sign at bytes) = pos 0
 
 abbrev pub IsNumber : Token → Type 0
-IsNumber t = t.kind ≡ Number
+IsNumber (Number at bytes) = Unit {0}
+IsNumber (Name at bytes) = ⊥
+IsNumber (Sign at bytes) = ⊥
 
 abbrev pub IsName : Token → Type 0
-IsName t = t.kind ≡ Name
+IsName (Number at bytes) = ⊥
+IsName (Name at bytes) = Unit {0}
+IsName (Sign at bytes) = ⊥
 
 abbrev pub IsSign : Token → Type 0
-IsSign t = t.kind ≡ Sign
+IsSign (Number at bytes) = ⊥
+IsSign (Name at bytes) = ⊥
+IsSign (Sign at bytes) = Unit {0}

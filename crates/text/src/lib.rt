@@ -6,7 +6,7 @@
 // it is `Cut` at the text's length.
 #![tactic(auto)]
 
-ghost use Rattle.std.specs.Prelude.{◌≡◌, ℕ, ◌+◌, ◌-◌, ◌<◌, ◌≤◌, min, length, IfOk, Ok, Err};
+ghost use Rattle.std.specs.Prelude.{◌≡◌, ℕ, ◌+◌, ◌-◌, ◌<◌, ◌≤◌, min, length, IfOk, Ok, Err, true, false, slice_index};
 ghost use Rattle.std.specs.List.{between};
 ghost use Rattle.text.specs.Bytes.{belongs, stands, Run, spelling, decimal, number_of};
 ghost use Rattle.text.specs.Tokens.{short, missing, Pass, Byte, Bytes, Spelt, Digits, Minus, Number as NumberForm, Name as NameForm, Limited, Gap, Comment, Line, low, high, limited, clamp};
@@ -15,7 +15,7 @@ ghost use Rattle.text.specs.Reading.{Step, told, seen, Covers, number_said, inde
 pub mod reader;
 
 use faults::fault::TextFault;
-use reader::{Class, Kind, Limit, Reader, Sign, Token};
+use reader::{Class, Limit, Reader, Sign, Token};
 
 // The most bytes that a text may have.
 pub const TEXT_BYTES: usize = 16_384;
@@ -47,12 +47,24 @@ impl Class {
     }
 }
 
+// How many bytes in front are of the class.
+fn run_length(bytes: &[u8], class: Class) -> usize
+    ensures within { result ≤ length bytes.now }
+    ensures all { (i : ℕ) → i < result → belongs class (slice_index bytes.now i) ≡ true }
+    ensures stops { result < length bytes.now → belongs class (slice_index bytes.now result) ≡ false }
+{
+    bytes
+        .iter()
+        .position(|b| !class.has(*b))
+        .unwrap_or(bytes.len())
+}
+
 // The end of the longest run of bytes of the class from `from` on.
 fn run_end(text: &[u8], from: usize, class: Class) -> usize
     requires { from ≤ length text.now }
     ensures { Run class text.now from result }
 {
-    from + text[from..].iter().take_while(|b| class.has(**b)).count()
+    from + run_length(&text[from..], class)
 }
 
 // The number that the digits write or, where that is larger, one that is past every limit.
@@ -178,18 +190,12 @@ impl<'a> Reader<'a> {
         minus
     }
 
-    // The token of this kind that began at `at` and ends here.
-    fn token(&self, kind: Kind, at: usize) -> Token<'a>
+    // The bytes from `at` up to here, of the text itself.
+    fn since(&self, at: usize) -> &'a [u8]
         requires { at ≤ self.now.at }
-        ensures kind { result.kind ≡ kind }
-        ensures at { result.at ≡ at }
-        ensures bytes { result.bytes.now ≡ between at self.now.at self.now.text.now }
+        ensures { result.now ≡ between at self.now.at self.now.text.now }
     {
-        Token {
-            kind,
-            at,
-            bytes: &self.text[at..self.at],
-        }
+        &self.text[at..self.at]
     }
 
     // A number: an optional sign and digits.
@@ -201,7 +207,8 @@ impl<'a> Reader<'a> {
         let at = self.at;
         self.minus();
         self.digits(at)?;
-        Ok(self.token(Kind::Number, at))
+        let bytes = self.since(at);
+        Ok(Token::Number { at, bytes })
     }
 
     // The name of a part: `x` and digits.
@@ -213,7 +220,8 @@ impl<'a> Reader<'a> {
         let at = self.at;
         self.byte(b'x', at)?;
         self.digits(at)?;
-        Ok(self.token(Kind::Name, at))
+        let bytes = self.since(at);
+        Ok(Token::Name { at, bytes })
     }
 
     // A token that is spelt in one way only.
@@ -224,7 +232,8 @@ impl<'a> Reader<'a> {
     {
         let at = self.at;
         self.spell(sign.spelling(), at)?;
-        Ok(self.token(Kind::Sign, at))
+        let bytes = self.since(at);
+        Ok(Token::Sign { at, bytes })
     }
 
     // Passes these bytes, of a token that begins at `start`.
@@ -277,9 +286,9 @@ impl Token<'_> {
     pub fn value(self, limit: Limit) -> Result<i32, TextFault>
         ensures { result ≡ number_said limit self.entry }
     {
-        match self.kind {
-            Kind::Number => value_within(self.bytes, limit, self.at),
-            Kind::Name | Kind::Sign => Err(TextFault::Misplaced(self.at)),
+        match self {
+            Token::Number { at, bytes } => value_within(bytes, limit, at),
+            Token::Name { at, .. } | Token::Sign { at, .. } => Err(TextFault::Misplaced(at)),
         }
     }
 
@@ -287,9 +296,9 @@ impl Token<'_> {
     pub fn index(self) -> usize
         ensures { result ≡ min 100000001 (index_said self.entry) }
     {
-        match self.kind {
-            Kind::Name => capped(self.bytes.get(1..).unwrap_or_default()) as usize,
-            Kind::Number | Kind::Sign => 0,
+        match self {
+            Token::Name { bytes, .. } => capped(bytes.get(1..).unwrap_or_default()) as usize,
+            Token::Number { .. } | Token::Sign { .. } => 0,
         }
     }
 }

@@ -44,23 +44,15 @@ pub enum Limit {
     RightSide,
 }
 
-// The kinds of tokens.
-#[derive(Clone, Copy)]
-pub enum Kind {
-    // an optional sign and digits
-    Number,
-    // `x` and digits
-    Name,
-    // one of the fixed spellings
-    Sign,
-}
-
 // A token borrows the bytes of the text that it covers, from the offset `at` on.
 #[derive(Clone, Copy)]
-pub struct Token<'a> {
-    pub kind: Kind,
-    pub at: usize,
-    pub bytes: &'a [u8],
+pub enum Token<'a> {
+    // an optional sign and digits
+    Number { at: usize, bytes: &'a [u8] },
+    // `x` and digits
+    Name { at: usize, bytes: &'a [u8] },
+    // one of the fixed spellings
+    Sign { at: usize, bytes: &'a [u8] },
 }
 
 // The text as it was handed in, and how far it has been read.

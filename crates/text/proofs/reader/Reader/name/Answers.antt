@@ -17,12 +17,12 @@ returns-in_err-digits c = record {
   kind = search rules;
 }
 
-pub token-requires : goal.token-requires
-token-requires c = omega (arith, name_behind _ _ _ _ c.in_ok-digits.ensures refl c.in_ok-byte.ensures)
+pub since-bytes-requires : goal.since-bytes-requires
+since-bytes-requires c = omega (arith, name_behind _ _ _ _ c.in_ok-digits.ensures refl c.in_ok-byte.ensures)
 
 pub returns : goal.returns
 returns c = record {
-  reads = rw c.token.ensures.kind (name_made _ _ _ _ c.in_ok-digits.ensures c.token.ensures.bytes c.in_ok-byte.ensures);
-  covers = (c.token.ensures.at, shows c.args.self.now _ _ _ c.in_ok-digits.ensures c.token.ensures.bytes c.in_ok-byte.ensures.same);
-  kind = c.token.ensures.kind;
+  reads = name_made _ _ _ _ c.in_ok-digits.ensures c.since-bytes.ensures c.in_ok-byte.ensures;
+  covers = (refl, shows c.args.self.now _ _ _ c.in_ok-digits.ensures c.since-bytes.ensures c.in_ok-byte.ensures.same);
+  kind = tt;
 }

@@ -10,12 +10,12 @@ returns-in_err-digits c = record {
   kind = search rules;
 }
 
-pub token-requires : goal.token-requires
-token-requires c = number_behind _ _ _ _ c.in_ok-digits.ensures refl _ c.minus.ensures
+pub since-bytes-requires : goal.since-bytes-requires
+since-bytes-requires c = number_behind _ _ _ _ c.in_ok-digits.ensures refl _ c.minus.ensures
 
 pub returns : goal.returns
 returns c = record {
-  reads = rw c.token.ensures.kind (number_made _ _ _ _ c.in_ok-digits.ensures c.token.ensures.bytes _ c.minus.ensures);
-  covers = (c.token.ensures.at, shows c.args.self.now _ _ _ c.in_ok-digits.ensures c.token.ensures.bytes c.minus.ensures.same);
-  kind = c.token.ensures.kind;
+  reads = number_made _ _ _ _ c.in_ok-digits.ensures c.since-bytes.ensures _ c.minus.ensures;
+  covers = (refl, shows c.args.self.now _ _ _ c.in_ok-digits.ensures c.since-bytes.ensures c.minus.ensures.same);
+  kind = tt;
 }

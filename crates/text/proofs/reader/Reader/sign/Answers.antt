@@ -1,5 +1,5 @@
 use Rattle.text.proofs.Progress.{forward_bytes}
 use Rattle.text.proofs.reader.Reader.sign.Goals as goal
 
-pub token-requires : goal.token-requires
-token-requires c = forward_bytes _ _ _ _ _ _ c.in_ok-spell.ensures.reads
+pub since-bytes-requires : goal.since-bytes-requires
+since-bytes-requires c = forward_bytes _ _ _ _ _ _ c.in_ok-spell.ensures.reads

@@ -1,7 +1,7 @@
 use Rattle.std.proofs.Common.{ℕ, ap, ◌∙◌}
 use Rattle.text.specs.Tokens.{limited}
 use Rattle.text.specs.Reading.{written}
-use Rattle.text.proofs.Made.{said}
+use Rattle.text.proofs.Said.{said}
 use Rattle.text.proofs.Steps.{step_goes, step_stops, step_from, step_give, err_is}
 use Rattle.text.proofs.reader.Reader.value.Goals as goal
 
