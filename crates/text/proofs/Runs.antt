@@ -1,9 +1,8 @@
 -- Runs of bytes: there is one from each place, and only one.
-use Rattle.std.proofs.Common.{◌≡◌, ℕ, zero, suc, ◌+◌, ◌-◌, ◌<◌, ◌≤◌, Bool, true, false, ltb, List, length, get_or, drop, sym, refl, ap, ◌∙◌, subst, arith}
-use Rattle.std.proofs.lemmas.List.{get_or-drop, length-drop}
+use Rattle.std.proofs.Common.{◌≡◌, ℕ, zero, suc, ◌+◌, ◌-◌, ◌<◌, ◌≤◌, Bool, true, false, ltb, List, length, refl, subst, arith}
 use Rattle.forms.proofs.Exactness.{both}
 use Rattle.text.specs.declared.reader.Class.{Class}
-use Rattle.text.specs.Bytes.{belongs, sees, Run}
+use Rattle.text.specs.Bytes.{sees, Run}
 
 pub empty : (c : Class) (text : List ℕ) (from end : ℕ) → Run c text from end → end ≤ from → sees text c from ≡ false
 empty c text from end r h =
@@ -55,38 +54,3 @@ run_within text c (suc fuel) from le h = longer text c from le (sees text c from
 
 pub run_some : (text : List ℕ) (c : Class) (from : ℕ) → from ≤ length text → (end : ℕ) × Run c text from end
 run_some text c from le = run_within text c (suc (length text - from)) from le (omega arith)
-
--- as many bytes from there on as are of the class
-module _ (c : Class) (text : List ℕ) (from : ℕ) (le : from ≤ length text) where
-  inside : (i : ℕ) (b : Bool) → i < length text → belongs c (get_or text i 0) ≡ b → sees text c i ≡ b
-  inside i b l e = grind arith
-
-  at_place : (i : ℕ) (b : Bool) → from ≤ i → i < length text → belongs c (get_or (drop from text) (i - from) 0) ≡ b → sees text c i ≡ b
-  at_place i b h l e =
-      let k : from + (i - from) ≡ i = omega arith in
-      inside i b l (subst (λ (j : ℕ). belongs c (get_or text j 0) ≡ b) k (sym (ap (belongs c) (get_or-drop from text (i - from) 0)) ∙ e))
-
-  module _ (n : ℕ) (rest : List ℕ) (is : rest ≡ drop from text) (short : n ≤ length rest) (all_of : (i : ℕ) → i < n → belongs c (get_or rest i 0) ≡ true) (stops_at : n < length rest → belongs c (get_or rest n 0) ≡ false) where
-    within : n ≤ length (drop from text)
-    within = subst (λ (bs : List ℕ). n ≤ length bs) is short
-
-    all : (i : ℕ) → i < n → belongs c (get_or (drop from text) i 0) ≡ true
-    all = subst (λ (bs : List ℕ). (i : ℕ) → i < n → belongs c (get_or bs i 0) ≡ true) is all_of
-
-    stops : n < length (drop from text) → belongs c (get_or (drop from text) n 0) ≡ false
-    stops = subst (λ (bs : List ℕ). n < length bs → belongs c (get_or bs n 0) ≡ false) is stops_at
-
-    ended : (b : Bool) → ltb (from + n) (length text) ≡ b → sees text c (from + n) ≡ false
-    ended true p =
-        let l : from + n < length text = grind arith in
-        let k : from + n - from ≡ n = omega arith in
-        at_place (from + n) false (omega arith) l (subst (λ (j : ℕ). belongs c (get_or (drop from text) j 0) ≡ false) (sym k) (stops (omega (arith, l, length-drop from text))))
-    ended false p = grind arith
-
-    pub run_front : Run c text from (from + n)
-    run_front = record {
-      forward = omega arith;
-      within = omega (arith, within, length-drop from text);
-      all = λ i h l. at_place i true h (omega (arith, within, length-drop from text)) (all (i - from) (omega arith));
-      stops = ended (ltb (from + n) (length text)) refl;
-    }

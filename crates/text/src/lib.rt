@@ -6,7 +6,7 @@
 // it is `Cut` at the text's length.
 #![tactic(auto)]
 
-ghost use Rattle.std.specs.Prelude.{◌≡◌, ℕ, ◌+◌, ◌-◌, ◌<◌, ◌≤◌, min, length, IfOk, Ok, Err, true, false, slice_index};
+ghost use Rattle.std.specs.Prelude.{◌≡◌, ℕ, ◌+◌, ◌-◌, ◌<◌, ◌≤◌, min, length, IfOk, Ok, Err};
 ghost use Rattle.std.specs.List.{between};
 ghost use Rattle.text.specs.Bytes.{belongs, stands, Run, spelling, decimal, number_of};
 ghost use Rattle.text.specs.Tokens.{short, missing, Pass, Byte, Bytes, Spelt, Digits, Minus, Number as NumberForm, Name as NameForm, Limited, Gap, Comment, Line, low, high, limited, clamp};
@@ -47,24 +47,19 @@ impl Class {
     }
 }
 
-// How many bytes in front are of the class.
-fn run_length(bytes: &[u8], class: Class) -> usize
-    ensures within { result ≤ length bytes.now }
-    ensures all { (i : ℕ) → i < result → belongs class (slice_index bytes.now i) ≡ true }
-    ensures stops { result < length bytes.now → belongs class (slice_index bytes.now result) ≡ false }
-{
-    bytes
-        .iter()
-        .position(|b| !class.has(*b))
-        .unwrap_or(bytes.len())
-}
-
-// The end of the longest run of bytes of the class from `from` on.
+// The end of the longest run of bytes of the class from `from` on. It goes by places: over runs of one byte, as most are,
+// an iterator of the bytes from there on takes a third more.
 fn run_end(text: &[u8], from: usize, class: Class) -> usize
     requires { from ≤ length text.now }
     ensures { Run class text.now from result }
 {
-    from + run_length(&text[from..], class)
+    (from..text.len())
+        .find(
+            |&at|
+                requires { at < length text.now }
+            { !class.has(text[at]) },
+        )
+        .unwrap_or(text.len())
 }
 
 // The number that the digits write or, where that is larger, one that is past every limit.
