@@ -2,7 +2,7 @@
 ghost use Rattle.std.specs.Prelude.{◌≡◌, ℕ, ◌<◌, Some, IfOk};
 ghost use Rattle.rules.specs.Rule.{at};
 ghost use Rattle.core_text.specs.Words.{line_error_words};
-ghost use Rattle.core_text.specs.Lines.{ReadsRow, ReadsLine};
+ghost use Rattle.core_text.specs.Lines.{RowOf, ReadsLine};
 
 use arrayvec::ArrayVec;
 use rules::term::Rule;
@@ -35,39 +35,42 @@ impl fmt::Display for LineError {
 
 impl Error for LineError {}
 
-// The first numbers of a row; at its other places there is 0.
-#[derive(Drop)]
+// Numbers at the first places of a row; the other places are 0.
+#[derive(Clone, Copy)]
 pub struct Row {
-    pub numbers: ArrayVec<i32, 80>,
+    pub numbers: [i32; 80],
+    // how many there are
+    pub length: usize,
 }
 
-impl Row {
-    // The whole row.
-    pub fn places(&self) -> [i32; 80]
-        ensures { (i : ℕ) → i < 80 → at result i ≡ at self.now.numbers.items i }
-    {
-        array::from_fn(|i| self.numbers.get(i).copied().unwrap_or(0))
-    }
+// The whole row of these first numbers.
+fn places(numbers: &ArrayVec<i32, 80>) -> [i32; 80]
+    ensures { (i : ℕ) → i < 80 → at result i ≡ at numbers.now.items i }
+{
+    array::from_fn(|i| numbers.get(i).copied().unwrap_or(0))
 }
 
 // Numbers with a comma between each two.
 impl FromStr for Row {
     type Err = LineError;
 
-    ghost from_str_gives = { λ text r. IfOk r (λ row. ReadsRow text row.numbers.items) };
+    ghost from_str_gives = { λ text r. IfOk r (RowOf text) };
 
     fn from_str(list: &str) -> Result<Row, LineError> {
-        let mut numbers = ArrayVec::new();
+        let mut numbers: ArrayVec<i32, 80> = ArrayVec::new();
         for number in list.split(',') {
             let number = number.parse::<i32>().map_err(|_| LineError::Number)?;
             numbers.try_push(number).map_err(|_| LineError::Long)?;
         }
-        Ok(Row { numbers })
+        Ok(Row {
+            numbers: places(&numbers),
+            length: numbers.len(),
+        })
     }
 }
 
 // A rule with the weights of its literals, and what the line says after them.
-#[derive(Drop)]
+#[derive(Clone, Copy)]
 pub struct Line<'a> {
     pub rule: Rule,
     pub weights: Row,
@@ -86,7 +89,7 @@ impl<'a> TryFrom<&'a str> for Line<'a> {
         let (weights, rest) = after.split_once('\t').ok_or(LineError::Short)?;
         Ok(Line {
             rule: Rule {
-                coefficients: coefficients.parse::<Row>()?.places(),
+                coefficients: coefficients.parse::<Row>()?.numbers,
                 degree: degree.parse::<u32>().map_err(|_| LineError::Number)?,
             },
             weights: weights.parse::<Row>()?,

@@ -25,6 +25,13 @@ pub fn literal_weight(coefficient: i32, price: i32) -> u32
     }
 }
 
+// The variables that a core has a literal on.
+pub fn literals_of(core: &Rule) -> [bool; 80]
+    ensures { (i : ℕ) → i < 80 → flag result i ≡ not (size (coefficient core.now i) == 0) }
+{
+    array::from_fn(|i| core.coefficients[i].unsigned_abs() != 0)
+}
+
 // A core and a price, under which each of the core's literals weighs something or nothing.
 #[derive(Clone, Copy)]
 pub struct Weighted<'a> {
@@ -45,7 +52,7 @@ impl<'a> Weighted<'a> {
     pub fn literals(&self) -> [bool; 80]
         ensures { (i : ℕ) → i < 80 → flag result i ≡ not (size (coefficient self.now.core.now i) == 0) }
     {
-        array::from_fn(|i| self.core.coefficients[i].unsigned_abs() != 0)
+        literals_of(self.core)
     }
 
     // The lighter of what was found below i, and i itself, which is a member.

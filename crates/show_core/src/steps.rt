@@ -36,11 +36,11 @@ fn assumed(heap: Global, weights: &[i32; 80]) -> anyhow::Result<Vec<Literal>> {
 // One rule with its weights, from beginning to end.
 pub fn show_line(rt: &impl Print, heap: Global, line: &Line) -> anyhow::Result<()> {
     let written = Written(&line.rule);
-    let weights = line.weights.places();
-    let price = Terms(&weights);
+    let weights = &line.weights.numbers;
+    let price = Terms(weights);
     println!(rt; "the rule: {written}")?;
     println!(rt; "the price: {price}")?;
-    let assumed = assumed(heap, &weights)?;
+    let assumed = assumed(heap, weights)?;
     match core_of(&line.rule, assumed.as_slice()) {
         Err(refusal) => {
             println!(rt; "the core {refusal}")?;
@@ -51,9 +51,9 @@ pub fn show_line(rt: &impl Print, heap: Global, line: &Line) -> anyhow::Result<(
             println!(rt; "the core: {written}")?;
             let weighted = Weighted {
                 core: &core,
-                price: &weights,
+                price: weights,
             };
-            show_core(rt, &weighted, line.weights.numbers.len())
+            show_core(rt, &weighted, line.weights.length)
         }
     }
 }

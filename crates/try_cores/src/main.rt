@@ -37,7 +37,7 @@ fn compare(rt: &impl Print, heap: Global, line: &str) -> anyhow::Result<bool> {
         println!(rt; "not a core: {line}")?;
         return Ok(false);
     };
-    let got = outcome(heap, &core.rule, &core.weights.places())?;
+    let got = outcome(heap, &core.rule, &core.weights.numbers)?;
     if got.as_bytes() == core.rest.as_bytes() {
         return Ok(true);
     }

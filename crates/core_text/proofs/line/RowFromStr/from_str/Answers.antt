@@ -4,6 +4,7 @@ use Rattle.std.proofs.lemmas.List.Elements.{All-push}
 use Rattle.std.proofs.lemmas.Iterator.Consumers.{YieldsList-end}
 use Rattle.std.proofs.lemmas.Iterator.Splits.{YieldsList-from_str_split}
 use Rattle.core_text.specs.Lines.{comma, number, IsNumber}
+use Rattle.core_text.proofs.Rows.{row_of}
 use Rattle.core_text.proofs.line.RowFromStr.from_str.Goals as goal
 
 pub loop-number-preserved : goal.loop-number-preserved
@@ -23,4 +24,4 @@ loop-number-preserved c =
 pub returns : goal.returns
 returns c =
     let all = YieldsList-end (YieldsList-from_str_split comma c.args.list.now (omega arith) (cc) (cc) (cc)) c.loop-number.yielded _ c.loop-number.yielded_by _ _ c.in-None.is c.next.ensures.steps in
-    rw (← all.0) (c.loop-number.invariant.values, c.loop-number.invariant.numerals)
+    row_of c.args.list.now c.loop-number.numbers.items c.places.result (search rules) (search rules) c.places.ensures _ (search rules) (rw (← all.0) (c.loop-number.invariant.values, c.loop-number.invariant.numerals))

@@ -1,8 +1,0 @@
-use Rattle.std.proofs.Common.{false, not, eqb, rules}
-use Rattle.rules.specs.Rule.{size}
-use Rattle.rules.specs.Terms.{coefficient}
-use Rattle.rules.proofs.Made.{made}
-use Rattle.gains.proofs.rounds.Weighted.literals.Goals as goal
-
-pub returns : goal.returns
-returns c = made _ _ (λ i. not (eqb (size (coefficient c.args.self.now.core.now i)) 0)) _ false 80 c.from_fn.ensures.items (λ k y q l call. (search rules, search rules))
