@@ -6,9 +6,8 @@
 
 use anyhow::bail;
 use board::Board;
-use refused::refused_sheet;
-use refused::shown::BoardRefusal;
-use statement::shown::Statement;
+use refused::{refused_board, refused_sheet};
+use statement::statement;
 use std::env;
 use std::io::Read;
 use table::WORDS;
@@ -49,16 +48,11 @@ fn audit(rt: &HostRuntime, text: &[u8], words: &[String]) -> anyhow::Result<()> 
 fn hold(rt: &HostRuntime, sheet: Checked, words: &[String]) -> anyhow::Result<()> {
     match Board::read(words, &sheet) {
         Ok(board) => {
-            rt.print(Statement { sheet, board })?;
+            rt.print(statement(rt.alloc(), &sheet, &board)?)?;
             Ok(())
         }
         Err(misread) => {
-            let parts = sheet.parts();
-            rt.print(BoardRefusal {
-                words,
-                misread,
-                parts,
-            })?;
+            rt.print(refused_board(rt.alloc(), words, misread, sheet.parts())?)?;
             bail!("the board is refused")
         }
     }
