@@ -6,15 +6,10 @@ use Rattle.rules.specs.declared.term.Literal.{Literal}
 use Rattle.engine.specs.Held.{FirstBad, Every}
 use Rattle.engine.specs.Questions.{GoodLiteral}
 use Rattle.store.specs.declared.assumed.Assumed.{Assumed}
-use Rattle.store.specs.Stands.{StandsBefore}
 
 -- the literals up to the count
 abbrev pub assumed_in : Assumed → List Literal
 assumed_in a = take a.count a.literals
-
--- some literal before index i has the same variable
-abbrev pub LiteralBefore : List Literal → ℕ → Type 0
-LiteralBefore ls i = StandsBefore (λ l. l.variable) ls i
 
 -- all are good and are assumed, or the first that is not good
 abbrev pub Takes : ℕ → List Literal → Result Assumed EngineFault → Type 0
