@@ -1,5 +1,5 @@
 -- What a store means, by its rows.
-use Rattle.std.proofs.Common.{◌≡◌, ℕ, ◌+◌, ◌<◌, List, length, get_or, drop, set, ℤ, sym, ap, ◌∙◌}
+use Rattle.std.proofs.Common.{◌≡◌, ℕ, zero, suc, ◌+◌, ◌<◌, List, [], ◌∷◌, length, get_or, take, drop, set, ℤ, sym, refl, ap, ◌∙◌}
 use Rattle.std.proofs.lemmas.List.{at_drop_more}
 use Rattle.rules.proofs.Placed.{size_zero}
 use Rattle.rules.specs.Terms.{signed, placed}
@@ -8,6 +8,15 @@ use Rattle.engine.specs.Held.{Fits, nth, no_term, variable_of}
 use Rattle.engine.specs.Questions.{engine_limits}
 use Rattle.store.specs.declared.keep.Store.{Store}
 use Rattle.store.specs.View.{held_in}
+
+-- what is written among the first is written in the list of the first
+pub take_of_set : {X : Type 0} (n : ℕ) (xs : List X) (i : ℕ) (y : X) → take n (set xs i y) ≡ set (take n xs) i y
+take_of_set zero [] i y = refl
+take_of_set zero (x ∷ xs) zero y = refl
+take_of_set zero (x ∷ xs) (suc i) y = refl
+take_of_set (suc n) [] i y = refl
+take_of_set (suc n) (x ∷ xs) zero y = refl
+take_of_set (suc n) (x ∷ xs) (suc i) y = ap (λ r. x ∷ r) (take_of_set n xs i y)
 
 -- one term more is placed
 pub row_step : (row : List ℤ) (ts : List Pair) (i : ℕ) (v : ℤ) (whole : List ℤ) → i < length ts → v ≡ signed (get_or ts i no_term)
