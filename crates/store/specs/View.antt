@@ -1,14 +1,14 @@
 -- What a store of rules means.
-use Rattle.std.specs.Prelude.{◌≡◌, ℕ, Ok, Err, Result}
+use Rattle.std.specs.Prelude.{◌≡◌, ℕ, take, Ok, Err, Result}
 use Rattle.faults.specs.declared.fault.EngineFault.{EngineFault}
 use Rattle.faults.specs.declared.fault.EngineFault.TheVariants.{Rule}
 use Rattle.engine.specs.Held.{Held}
 use Rattle.engine.specs.Questions.{engine_limits, CanRaise, with_raised}
 use Rattle.store.specs.declared.keep.Store.{Store}
 
--- its variables and its rules
+-- its variables, and the rules up to its count
 abbrev pub held_in : Store → Held
-held_in s = record { variables = s.variables; rules = s.rules.items }
+held_in s = record { variables = s.variables; rules = take s.count s.rules }
 
 -- the degree of rule k is lifted, or number 16
 abbrev pub Raises : ℕ → ℕ → Held → Result Unit EngineFault → Held → Type 0
