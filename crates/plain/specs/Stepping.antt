@@ -1,5 +1,5 @@
 -- What a step of the plain engine comes to.
-use Rattle.std.specs.Prelude.{◌≡◌, ℕ, ◌^◌, ◌<◌, ◌≤◌, ◌⊎◌, List, length, Some, None, Option, ◌≢◌, refl}
+use Rattle.std.specs.Prelude.{◌≡◌, ℕ, ◌+◌, ◌^◌, ◌<◌, ◌≤◌, ◌⊎◌, List, length, Some, None, Option, ◌≢◌, refl}
 use Rattle.std.specs.Option.{ForSome}
 use Rattle.std.proofs.Common.{sym, ap, subst, ◌∙◌, inl, inr, arith}
 use Rattle.rules.specs.Rule.{marked}
@@ -17,11 +17,12 @@ use Rattle.store.specs.Assumes.{assumed_in}
 use Rattle.store.specs.declared.keep.Store.{Store}
 use Rattle.store.specs.declared.assumed.Assumed.{Assumed}
 use Rattle.store.proofs.Distinct.{only_free}
-use Rattle.backtrack.specs.Walk.{Path, Exhausted, Dead, LastZero, NoZero, left}
+use Rattle.backtrack.specs.Walk.{Path, Exhausted, Dead, LastZero, NoZero, deeper, turned, left}
 use Rattle.backtrack.specs.Clause.{refuted}
 use Rattle.backtrack.proofs.Passing.{exhausted_start, exhausted_deeper, exhausted_turned, none_left, path_start, path_deeper, path_turned}
 use Rattle.backtrack.proofs.Left.{left_deeper, left_turned, left_within}
 use Rattle.backtrack.proofs.Ends.{dead_by_rule, dead_by_literal, solution_here, clause_refutes}
+use Rattle.plain.specs.Marks.{ZeroFound}
 use Rattle.plain.specs.Ready.{Ready, at_walk}
 use Rattle.plain.specs.Steps.{BrokenNow, Deepened, Turned, Reaches, Searched, IsClause, After, question_of, asked_by}
 use Rattle.plain.specs.declared.walk.Walk.{Walk}
@@ -60,71 +61,88 @@ module _ (s : Store) (x : Search) (r : Ready s x.assumed x.walk) where
     | inr k ↦ dead_by_rule (held_in s) (assumed_in x.assumed) (at_walk x.walk) k.rule k.there k.breaks
   ]
 
-  no_zero : ((j : ℕ) → j < x.walk.depth → at_walk x.walk j ≢ Zero) → NoZero (at_walk x.walk) x.walk.depth
+  last_zero : (t : ℕ) → ZeroFound (at_walk x.walk) x.walk.depth (Some t) → LastZero (at_walk x.walk) x.walk.depth t
+  last_zero t found = record {
+    below = found.0;
+    zero = found.1;
+    later = λ j l b. other_is_one (at_walk x.walk j) (r.path.marked j b) (found.2 j l b);
+  }
+
+  no_zero : ZeroFound (at_walk x.walk) x.walk.depth None → NoZero (at_walk x.walk) x.walk.depth
   no_zero found j b = other_is_one (at_walk x.walk j) (r.path.marked j b) (found j b)
 
-  module _ (y : Search) (same : y.assumed ≡ x.assumed) where
-    -- the last 0 is turned
-    module _ (t : Turned s x y) where
-      last_zero : LastZero (at_walk x.walk) x.walk.depth t.at
-      last_zero = record {
-        below = t.within;
-        zero = t.was;
-        later = λ j l b. other_is_one (at_walk x.walk j) (r.path.marked j b) (t.last j l b);
-      }
-
-      ready_turned : Ready s x.assumed y.walk
-      ready_turned = record {
-        path = subst (Path s.variables (at_walk y.walk)) (sym t.depth) (path_turned s.variables (at_walk x.walk) (at_walk y.walk) x.walk.depth t.at t.within t.marks r.path);
-        beyond = r.beyond;
-        exhausted = subst (Exhausted (held_in s) (assumed_in x.assumed) (at_walk y.walk)) (sym t.depth)
-            (exhausted_turned (held_in s) (assumed_in x.assumed) s.variables (at_walk x.walk) (at_walk y.walk) x.walk.depth t.at r.path refl last_zero (dead t.broken) t.marks r.exhausted);
-      }
-
-      fewer_turned : left s.variables (at_walk y.walk) y.walk.depth < left s.variables (at_walk x.walk) x.walk.depth
-      fewer_turned =
-          subst (λ d. left s.variables (at_walk y.walk) d < left s.variables (at_walk x.walk) x.walk.depth) (sym t.depth)
-          (left_turned s.variables (at_walk x.walk) (at_walk y.walk) x.walk.depth t.at t.within t.was t.marks)
-
-    -- the next variable gets 0
-    module _ (d : Deepened s x y) where
-      ready_deeper : Ready s x.assumed y.walk
-      ready_deeper = record {
-        path = subst (Path s.variables (at_walk y.walk)) (sym d.depth) (path_deeper s.variables (at_walk x.walk) (at_walk y.walk) x.walk.depth d.room d.marks r.path);
-        beyond = r.beyond;
-        exhausted = subst (Exhausted (held_in s) (assumed_in x.assumed) (at_walk y.walk)) (sym d.depth)
-            (exhausted_deeper (held_in s) (assumed_in x.assumed) (at_walk x.walk) (at_walk y.walk) x.walk.depth d.marks r.exhausted);
-      }
-
-      fewer_deeper : left s.variables (at_walk y.walk) y.walk.depth < left s.variables (at_walk x.walk) x.walk.depth
-      fewer_deeper =
-          subst (λ k. left s.variables (at_walk y.walk) k < left s.variables (at_walk x.walk) x.walk.depth) (sym d.depth)
-          (omega (arith, left_deeper s.variables (at_walk x.walk) (at_walk y.walk) x.walk.depth d.room d.marks))
-
-    ready_moved : Deepened s x y ⊎ Turned s x y → Ready s x.assumed y.walk
-    ready_moved = elim [ inl d ↦ ready_deeper d | inr t ↦ ready_turned t ]
-
-    fewer : Deepened s x y ⊎ Turned s x y → left s.variables (at_walk y.walk) y.walk.depth < left s.variables (at_walk x.walk) x.walk.depth
-    fewer = elim [ inl d ↦ fewer_deeper d | inr t ↦ fewer_turned t ]
-
-  -- a search that goes on is as ready as it was
-  pub ready_after : (y : Search) → Searched s x Going y → Ready s y.assumed y.walk
-  ready_after y m = subst (λ a. Ready s a y.walk) (sym m.0) (ready_moved y m.0 m.1)
-
-  -- each answer is true, and leaves fewer steps
-  pub answered : (a : Answer) (y : Search) (o : Option Search) → Searched s x a y → After a y o → Answered (held_in s) (question_of s (Some x)) a (question_of s o)
-  answered Going y o m is = record {
+  -- a walk that is ready and leaves fewer steps goes on with the question
+  goes_on : (w : Walk) → Ready s x.assumed w → left s.variables (at_walk w) w.depth < left s.variables (at_walk x.walk) x.walk.depth
+      → Answered (held_in s) (question_of s (Some x)) Going (posed (assumed_in x.assumed) (left s.variables (at_walk w) w.depth))
+  goes_on w k f = record {
     assumed = assumed_in x.assumed;
     left = left s.variables (at_walk x.walk) x.walk.depth;
     was = refl;
-    leaves = (
-      left s.variables (at_walk y.walk) y.walk.depth,
-      (left_within s.variables (at_walk y.walk) y.walk.depth (ready_moved y m.0 m.1).path.deep s.few).0,
-      fewer y m.0 m.1,
-      ap (question_of s) is ∙ ap (λ a. posed (assumed_in a) (left s.variables (at_walk y.walk) y.walk.depth)) m.0,
-    );
+    leaves = (left s.variables (at_walk w) w.depth, (left_within s.variables (at_walk w) w.depth k.path.deep s.few).0, f, refl);
     says = tt;
   }
+
+  -- the last 0 is turned
+  module _ (w : Walk) (t : ℕ) (broken : BrokenNow s x) (found : ZeroFound (at_walk x.walk) x.walk.depth (Some t))
+      (is : (i : ℕ) → at_walk w i ≡ turned (at_walk x.walk) t i) (deep : w.depth ≡ t + 1) where
+    pub ready_turned : Ready s x.assumed w
+    ready_turned = record {
+      path = subst (Path s.variables (at_walk w)) (sym deep) (path_turned s.variables (at_walk x.walk) (at_walk w) x.walk.depth t found.0 is r.path);
+      beyond = r.beyond;
+      exhausted = subst (Exhausted (held_in s) (assumed_in x.assumed) (at_walk w)) (sym deep)
+          (exhausted_turned (held_in s) (assumed_in x.assumed) s.variables (at_walk x.walk) (at_walk w) x.walk.depth t r.path refl (last_zero t found) (dead broken) is r.exhausted);
+    }
+
+    fewer_turned : left s.variables (at_walk w) w.depth < left s.variables (at_walk x.walk) x.walk.depth
+    fewer_turned =
+        subst (λ d. left s.variables (at_walk w) d < left s.variables (at_walk x.walk) x.walk.depth) (sym deep)
+        (left_turned s.variables (at_walk x.walk) (at_walk w) x.walk.depth t found.0 found.1 is)
+
+    pub answered_turned : Answered (held_in s) (question_of s (Some x)) Going (posed (assumed_in x.assumed) (left s.variables (at_walk w) w.depth))
+    answered_turned = goes_on w ready_turned fewer_turned
+
+  -- the next variable gets 0
+  module _ (w : Walk) (room : x.walk.depth < s.variables) (is : (i : ℕ) → at_walk w i ≡ deeper (at_walk x.walk) x.walk.depth i)
+      (deep : w.depth ≡ x.walk.depth + 1) where
+    pub ready_deeper : Ready s x.assumed w
+    ready_deeper = record {
+      path = subst (Path s.variables (at_walk w)) (sym deep) (path_deeper s.variables (at_walk x.walk) (at_walk w) x.walk.depth room is r.path);
+      beyond = r.beyond;
+      exhausted = subst (Exhausted (held_in s) (assumed_in x.assumed) (at_walk w)) (sym deep)
+          (exhausted_deeper (held_in s) (assumed_in x.assumed) (at_walk x.walk) (at_walk w) x.walk.depth is r.exhausted);
+    }
+
+    fewer_deeper : left s.variables (at_walk w) w.depth < left s.variables (at_walk x.walk) x.walk.depth
+    fewer_deeper =
+        subst (λ d. left s.variables (at_walk w) d < left s.variables (at_walk x.walk) x.walk.depth) (sym deep)
+        (omega (arith, left_deeper s.variables (at_walk x.walk) (at_walk w) x.walk.depth room is))
+
+    pub answered_deeper : Answered (held_in s) (question_of s (Some x)) Going (posed (assumed_in x.assumed) (left s.variables (at_walk w) w.depth))
+    answered_deeper = goes_on w ready_deeper fewer_deeper
+
+  -- either way
+  module _ (y : Search) where
+    ready_moved : Deepened s x y ⊎ Turned s x y → Ready s x.assumed y.walk
+    ready_moved = elim [
+      | inl d ↦ ready_deeper y.walk d.room d.marks d.depth
+      | inr t ↦ ready_turned y.walk t.at t.broken (t.within, t.was, t.last) t.marks t.depth
+    ]
+
+    fewer : Deepened s x y ⊎ Turned s x y → left s.variables (at_walk y.walk) y.walk.depth < left s.variables (at_walk x.walk) x.walk.depth
+    fewer = elim [
+      | inl d ↦ fewer_deeper y.walk d.room d.marks d.depth
+      | inr t ↦ fewer_turned y.walk t.at t.broken (t.within, t.was, t.last) t.marks t.depth
+    ]
+
+  -- a search that goes on is as ready as it was
+  pub ready_after : (y : Search) → Searched s x Going y → Ready s y.assumed y.walk
+  ready_after y m = subst (λ a. Ready s a y.walk) (sym m.0) (ready_moved y m.1)
+
+  -- each answer is true, and leaves fewer steps
+  pub answered : (a : Answer) (y : Search) (o : Option Search) → Searched s x a y → After a y o → Answered (held_in s) (question_of s (Some x)) a (question_of s o)
+  answered Going y o m is =
+      subst (Answered (held_in s) (question_of s (Some x)) Going) (sym (ap (question_of s) is ∙ ap (λ a. posed (assumed_in a) (left s.variables (at_walk y.walk) y.walk.depth)) m.0))
+      (goes_on y.walk (ready_moved y m.1) (fewer y m.1))
   answered (Yes ms) y o m is = record {
     assumed = assumed_in x.assumed;
     left = left s.variables (at_walk x.walk) x.walk.depth;

@@ -105,7 +105,7 @@ impl RuleHolder for Plain {
     }
 
     fn rules(&self) -> usize {
-        self.store.rules.len()
+        self.store.count
     }
 
     fn rule(&self, k: usize) -> Result<Rule, EngineFault> {

@@ -1,5 +1,5 @@
 -- Rules are loaded one by one, and none is refused.
-use Rattle.std.proofs.Common.{◌≡◌, ℕ, ◌+◌, ◌<◌, ◌≤◌, List, [], ◌∷◌, ◌++◌, length, ℤ, pos, Ok, Err, Result, IsErrAnd, sym, ap, ◌∙◌, subst, inl, inr, arith}
+use Rattle.std.proofs.Common.{◌≡◌, ℕ, ◌+◌, ◌<◌, ◌≤◌, List, [], ◌∷◌, ◌++◌, length, ℤ, pos, sym, ap, ◌∙◌, subst, inl, inr, arith}
 use Rattle.std.proofs.lemmas.List.{get_or_append_left, get_or_at, length_push}
 use Rattle.std.proofs.lemmas.Bool.{cases_eq, cases_lt}
 use Rattle.faults.specs.declared.fault.EngineFault.{EngineFault}
@@ -9,9 +9,9 @@ use Rattle.rules.specs.Terms.{coefficient}
 use Rattle.rules.specs.declared.term.Term.{Term as Pair}
 use Rattle.rules.specs.declared.term.Rule.{Rule as Row}
 use Rattle.engine.specs.Held.{Held, Limits, Fits, nth, blank, variable_of, GoodTerm, Every, rule_of, with_rule, NotAdded}
-use Rattle.engine.specs.Questions.{Question, engine_limits, empty}
+use Rattle.engine.specs.Questions.{engine_limits, empty}
 use Rattle.solve.specs.Listed.{Lists}
-use Rattle.solve.specs.Loads.{FirstRules, Loadable, Stopped, Loads}
+use Rattle.solve.specs.Loads.{FirstRules, Loadable, Stopped}
 
 pub no_rules_yet : (h h' : Held) (n : ℕ) → h' ≡ empty n → n ≡ h.variables → FirstRules h 0 h'
 no_rules_yet h h' n e v = record {
@@ -90,7 +90,3 @@ stopped_rule h h' h'' k r ts first there is lists e refused same =
         refused = subst (λ (x : Held). NotAdded engine_limits x ts (nth h.rules k).degree e) (sym same) (subst (λ (x : Row). NotAdded engine_limits h' ts x.degree e) is refused);
       },
     )
-
-pub refused_load : (l : Limits) (h h' : Held) (q : Question) (e : EngineFault) (r : Result Unit EngineFault) → IsErrAnd r (λ x. x ≡ e) → (Loadable l h → ⊥) → Stopped h e h' → Loads l h r h' q
-refused_load l h h' q e (Ok x) is cannot stop = absurd is
-refused_load l h h' q e (Err f) is cannot stop = (cannot, subst (λ x. Stopped h x h') (sym is) stop)

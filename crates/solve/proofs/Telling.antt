@@ -33,20 +33,20 @@ module _ (h h' : Held) (first : FirstRules h (length h.rules) h') where
       let same = first.each k l in
       omega (arith, all k b, same_sum h.variables h'.variables _ _ m first.variables same, same.degree)
 
-  tells : (a : Answer) → Says h' [] a → Tells h a
+  pub tells : (a : Answer) → Says h' [] a → Tells h a
   tells Going s = tt
   tells (Yes ms) s = (subst (λ n. Fully n (marked ms)) first.variables s.full, met_here (marked ms) s.meets)
   tells (No r) s = λ m full all.
       marks_refute.unmet h'.variables (coefficient r) r.degree (only []) m (λ i. tt) s.broken
       (s.follows m (subst (λ n. Fully n m) (sym first.variables) full) (met_there m all))
 
-took : (Q : ℕ) (ls : List Literal) (h h' : Held) (q : Question) (allowance steps : ℕ) (a : Answer) → Ends Q ls h allowance steps a h' q → Took Q allowance a steps
+pub took : (Q : ℕ) (ls : List Literal) (h h' : Held) (q : Question) (allowance steps : ℕ) (a : Answer) → Ends Q ls h allowance steps a h' q → Took Q allowance a steps
 took Q ls h h' q allowance steps Going e = e.0
 took Q ls h h' q allowance steps (Yes ms) e = (e.1, e.2)
 took Q ls h h' q allowance steps (No r) e = (e.1, e.2)
 
 -- the question without literals is never refused
-always_posed : (Q : ℕ) (h h' : Held) (q q' : Question) (e : EngineFault) → Posed Q [] h q (Err e) h' q' → ⊥
+pub always_posed : (Q : ℕ) (h h' : Held) (q q' : Question) (e : EngineFault) → Posed Q [] h q (Err e) h' q' → ⊥
 always_posed Q h h' q q' (Term i) p = omega (arith, p.0.within)
 always_posed Q h h' q q' (Variables n) p = p
 always_posed Q h h' q q' (Full n) p = p

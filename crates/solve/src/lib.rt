@@ -51,7 +51,9 @@ pub fn load<H: RuleHolder, E: Engine>(holder: &H, engine: &mut E) -> Result<(), 
     for k in 0..holder.rules() {
         let rule = holder.rule(k)?;
         let terms = terms_of(&rule.coefficients);
-        engine.add(terms.as_slice(), rule.degree)?;
+        if let Err(fault) = engine.add(terms.as_slice(), rule.degree) {
+            return Err(fault);
+        }
     }
     Ok(())
 }

@@ -1,6 +1,6 @@
 -- Different numbers below n are at most n.
 use Rattle.std.proofs.Common.{◌≡◌, ℕ, zero, suc, ◌+◌, ◌<◌, ◌≤◌, true, false, cond, eqb, List, [], ◌∷◌, ◌++◌, length, take, set, replicate, sym, refl, ap, ◌∙◌, inl, inr, arith}
-use Rattle.std.proofs.lemmas.List.{take_more, length-take-le, get_or-take, get_or-set_same, get_or-set_other}
+use Rattle.std.proofs.lemmas.List.{take_more, take_more_set, length-take-le, get_or-take, get_or-set_same, get_or-set_other}
 use Rattle.rules.specs.Rule.{marked}
 use Rattle.rules.specs.Terms.{true_mark, only}
 use Rattle.rules.specs.declared.Mark.{Mark}
@@ -54,6 +54,11 @@ distinct_few n k f below apart = omega (arith, each_once n f k below, total_boun
 -- so good literals are no more than the variables
 pub literals_few : (n : ℕ) (ls : List Literal) (k : ℕ) → Every (GoodLiteral n ls) k → k ≤ n
 literals_few n ls k good = distinct_few n k (λ i. (literal_at ls i).variable) (λ i l. (good i l).known) (λ i l. (good i l).once)
+
+-- one literal more is kept
+pub one_more_kept : (kept ls : List Literal) (i : ℕ) → length kept ≡ 80 → i < 80 → i < length ls → take i kept ≡ take i ls
+    → take (i + 1) (set kept i (literal_at ls i)) ≡ take (i + 1) ls
+one_more_kept kept ls i whole l m h = take_more_set kept i (literal_at ls i) (omega arith) ∙ (ap (λ xs. xs ++ (literal_at ls i ∷ [])) h ∙ sym (take_more ls i no_literal m))
 
 -- ---- the marks of literals
 pub free_marks : (n v : ℕ) → marked (replicate n Free) v ≡ Free

@@ -1,6 +1,6 @@
 -- The row of good terms is within their limits.
-use Rattle.std.proofs.Common.{◌≡◌, ℕ, zero, suc, ◌<◌, ◌≤◌, Bool, true, false, cond, ◌⊎◌, List, [], ◌∷◌, ◌++◌, length, get_or, set, replicate, ℤ, pos, sym, refl, ap, ◌∙◌, subst, inl, inr, arith}
-use Rattle.std.proofs.lemmas.List.{get_or-set_other, get_or_at, get_or_append_left, length_push}
+use Rattle.std.proofs.Common.{◌≡◌, ℕ, zero, suc, ◌+◌, ◌<◌, ◌≤◌, Bool, true, false, cond, ◌⊎◌, List, [], ◌∷◌, length, get_or, set, replicate, ℤ, pos, sym, refl, ap, ◌∙◌, subst, inl, inr, arith}
+use Rattle.std.proofs.lemmas.List.{get_or-set_same, get_or-set_other}
 use Rattle.std.proofs.lemmas.Bool.{cases_eq}
 use Rattle.rules.specs.Rule.{at, size}
 use Rattle.rules.proofs.Placed.{zeros}
@@ -53,11 +53,11 @@ row_small most n ts good = placed_small most ts (replicate 80 (pos 0)) (λ i. om
 pub row_beyond : (most n : ℕ) (ts : List Pair) → Every (GoodTerm most n ts) (length ts) → (i : ℕ) → n ≤ i → at (row_of ts) i ≡ pos 0
 row_beyond most n ts good = placed_beyond n ts (replicate 80 (pos 0)) (λ i l. zeros 80 i) (λ j l. (good j l).known)
 
--- a property of each rule holds with one rule more
-pub one_rule_more : (P : Row → Type 0) (rules : List Row) (r : Row) → ((k : ℕ) → k < length rules → P (get_or rules k blank)) → P r
-    → (k : ℕ) → k < length (rules ++ (r ∷ [])) → P (get_or (rules ++ (r ∷ [])) k blank)
-one_rule_more P rules r old new k l =
-    elim (cases_eq k (length rules)) [
-      | inl e ↦ subst P (sym (get_or_at rules r [] blank k (sym e))) new
-      | inr ne ↦ let b : k < length rules = omega (arith, length_push rules r) in subst P (sym (get_or_append_left rules (r ∷ []) blank k b)) (old k b)
+-- a property of each of the first rules holds with one rule more
+pub one_rule_more : (P : Row → Type 0) (rules : List Row) (count : ℕ) (r : Row) → count < length rules → ((k : ℕ) → k < count → P (get_or rules k blank)) → P r
+    → (k : ℕ) → k < count + 1 → P (get_or (set rules count r) k blank)
+one_rule_more P rules count r room old new k l =
+    elim (cases_eq k count) [
+      | inl e ↦ subst P (sym (ap (λ j. get_or (set rules count r) j blank) e ∙ get_or-set_same rules count r blank room)) new
+      | inr ne ↦ subst P (sym (get_or-set_other rules count k r blank ne)) (old k (omega arith))
     ]

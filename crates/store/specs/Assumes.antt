@@ -1,20 +1,15 @@
 -- The literals that a question assumes.
-use Rattle.std.specs.Prelude.{◌≡◌, ℕ, List, length, Ok, Err, Result}
+use Rattle.std.specs.Prelude.{◌≡◌, ℕ, List, length, take, Ok, Err, Result}
 use Rattle.faults.specs.declared.fault.EngineFault.{EngineFault}
 use Rattle.faults.specs.declared.fault.EngineFault.TheVariants.{Variables, Full, Term, Rule, NoQuestion}
 use Rattle.rules.specs.declared.term.Literal.{Literal}
 use Rattle.engine.specs.Held.{FirstBad, Every}
 use Rattle.engine.specs.Questions.{GoodLiteral}
 use Rattle.store.specs.declared.assumed.Assumed.{Assumed}
-use Rattle.store.specs.Stands.{StandsBefore}
 
--- the literals in their order
+-- the literals up to the count
 abbrev pub assumed_in : Assumed → List Literal
-assumed_in a = a.literals.items
-
--- some literal before index i has the same variable
-abbrev pub LiteralBefore : List Literal → ℕ → Type 0
-LiteralBefore ls i = StandsBefore (λ l. l.variable) ls i
+assumed_in a = take a.count a.literals
 
 -- all are good and are assumed, or the first that is not good
 abbrev pub Takes : ℕ → List Literal → Result Assumed EngineFault → Type 0

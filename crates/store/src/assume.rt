@@ -6,7 +6,6 @@ ghost use Rattle.store.specs.Assumes.{assumed_in, Takes};
 
 use super::assumed::Assumed;
 use super::stands::stands_alone;
-use arrayvec::ArrayVec;
 use faults::fault::EngineFault;
 use rules::Mark;
 use rules::term::{Literal, WIDTH};
@@ -28,7 +27,8 @@ impl Assumed {
         ensures { assumed_in result ≡ [] }
     {
         Assumed {
-            literals: ArrayVec::new(),
+            count: 0,
+            literals: [Literal::default(); WIDTH],
             marks: [Mark::Free; WIDTH],
         }
     }
@@ -41,12 +41,15 @@ impl Assumed {
         if let Some(i) = bad_literal(literals, variables) {
             return Err(EngineFault::Term(i));
         }
+        let mut chosen = [Literal::default(); WIDTH];
         let mut marks = [Mark::Free; WIDTH];
-        for literal in literals {
+        for (i, literal) in literals.iter().enumerate() {
+            chosen[i] = *literal;
             marks[literal.variable] = literal.true_mark();
         }
         Ok(Assumed {
-            literals: ArrayVec::try_from(literals).unwrap(),
+            count: literals.len(),
+            literals: chosen,
             marks,
         })
     }

@@ -14,7 +14,6 @@ pub mod assumed;
 pub mod keep;
 mod stands;
 
-use arrayvec::ArrayVec;
 use faults::fault::EngineFault;
 use keep::Store;
 use rules::Mark;
@@ -90,7 +89,8 @@ impl Store {
     {
         Store {
             variables: 0,
-            rules: ArrayVec::new(),
+            count: 0,
+            rules: [Rule::default(); ROOM],
         }
     }
 
@@ -100,7 +100,7 @@ impl Store {
         ensures { held_in self.new ≡ empty variables }
     {
         self.variables = variables;
-        self.rules.clear();
+        self.count = 0;
     }
 
     // So many variables in all, which are no fewer than before.
@@ -116,7 +116,10 @@ impl Store {
     pub fn rule(&self, k: usize) -> Result<Rule, EngineFault>
         ensures { Copied (held_in self.now) k result }
     {
-        self.rules.get(k).copied().ok_or(EngineFault::Rule(k))
+        self.rules[..self.count]
+            .get(k)
+            .copied()
+            .ok_or(EngineFault::Rule(k))
     }
 
     // The first rule that the marks break.
@@ -124,7 +127,7 @@ impl Store {
         ensures { FirstBroken (held_in self.now) marks.now result }
     {
         let variables = self.variables;
-        self.rules
+        self.rules[..self.count]
             .iter()
             .position(|rule| breaks(rule, variables, marks))
     }
@@ -134,7 +137,7 @@ impl Store {
         ensures raised { Raises k degree (held_in self.old) result (held_in self.new) }
         ensures refused { is_ok result ≡ false → self.new ≡ self.old }
     {
-        if k >= self.rules.len() || degree < self.rules[k].degree || MOST < degree {
+        if k >= self.count || degree < self.rules[k].degree || MOST < degree {
             return Err(EngineFault::Rule(k));
         }
         self.rules[k].degree = degree;
@@ -146,7 +149,7 @@ impl Store {
         ensures added { Added engine_limits (held_in self.old) terms.now degree result (held_in self.new) }
         ensures refused { is_ok result ≡ false → self.new ≡ self.old }
     {
-        if self.rules.is_full() {
+        if self.count >= ROOM {
             return Err(EngineFault::Full(ROOM));
         }
         if let Some(i) = bad_term(terms, self.variables, MOST) {
@@ -155,11 +158,11 @@ impl Store {
         if MOST < degree {
             return Err(EngineFault::Term(terms.len()));
         }
-        let coefficients = row(terms, self.variables, MOST);
-        self.rules.push(Rule {
-            coefficients,
+        self.rules[self.count] = Rule {
+            coefficients: row(terms, self.variables, MOST),
             degree,
-        });
+        };
+        self.count += 1;
         Ok(())
     }
 }

@@ -137,7 +137,7 @@ impl<E: Engine> Engine for Twice<E> {
             (_, Round::First) => {
                 self.round = Round::Second;
                 let assumed = &self.assumed;
-                self.inner.pose(&assumed.literals)?;
+                self.inner.pose(&assumed.literals[..assumed.count])?;
                 Ok(Answer::Going)
             }
         }

@@ -3,5 +3,7 @@ use Rattle.rules.specs.Rule.{marked}
 use Rattle.rules.specs.Terms.{only}
 use Rattle.store.proofs.assumed.Assumed.of.Given as goal
 
-abbrev pub invariant-loop-literal : goal.invariant-loop-literal
-invariant-loop-literal l = (length l.marks ≡ 80) × ((v : ℕ) → marked l.marks v ≡ only (take l.literal-index l.literals) v)
+abbrev pub invariant-loop-i : goal.invariant-loop-i
+invariant-loop-i l =
+    (length l.chosen ≡ 80) × (take l.i l.chosen ≡ take l.i l.literals)
+    × (length l.marks ≡ 80) × ((v : ℕ) → marked l.marks v ≡ only (take l.i l.literals) v)
