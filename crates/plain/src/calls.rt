@@ -114,7 +114,9 @@ impl RuleHolder for Plain {
 
     fn add(&mut self, terms: &[Term], degree: u32) -> Result<(), EngineFault> {
         self.store.add(terms, degree)?;
-        self.asking = None;
+        if self.asking.is_some() {
+            self.asking = None;
+        }
         Ok(())
     }
 
@@ -145,7 +147,9 @@ impl Engine for Plain {
             return Err(EngineFault::Variables(variables));
         }
         self.store.begin(variables);
-        self.asking = None;
+        if self.asking.is_some() {
+            self.asking = None;
+        }
         Ok(())
     }
 
@@ -155,13 +159,17 @@ impl Engine for Plain {
             return Err(EngineFault::Variables(total));
         }
         self.store.widen(total);
-        self.asking = None;
+        if self.asking.is_some() {
+            self.asking = None;
+        }
         Ok(())
     }
 
     fn raise(&mut self, k: usize, degree: u32) -> Result<(), EngineFault> {
         self.store.raise(k, degree)?;
-        self.asking = None;
+        if self.asking.is_some() {
+            self.asking = None;
+        }
         Ok(())
     }
 

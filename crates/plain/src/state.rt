@@ -12,6 +12,7 @@ use super::search::Search;
 use store::keep::Store;
 
 // A search marks and assumes only variables that are there, and has passed no solution.
+// To close one writes over all of it, so the calls that close a question ask first whether one is open.
 #[derive(Drop)]
 pub struct Plain {
     pub store: Store,
