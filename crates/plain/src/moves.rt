@@ -9,6 +9,7 @@ ghost use Rattle.plain.specs.Marks.{ZeroFound, OpposedFound, cleared};
 use super::walk::Walk;
 use rules::Mark;
 use rules::term::WIDTH;
+use std::array;
 
 // Whether two marks exclude each other.
 fn opposes(a: Mark, b: Mark) -> bool
@@ -88,9 +89,9 @@ fn clear_after(marks: &mut [Mark; 80], t: usize)
     marks[t + 1..].fill(Mark::Free);
 }
 
-// The coefficients of the clause of all literals that the marks make false.
+// The coefficients of the clause of all literals that the marks make false. `map` goes over an array three times, `from_fn` once.
 pub fn clause_row(marks: &[Mark; 80]) -> [i32; 80]
     ensures { (i : ℕ) → at result i ≡ refuted (marked marks.now i) }
 {
-    marks.map(refuting)
+    array::from_fn(|i| refuting(marks[i]))
 }
