@@ -25,7 +25,7 @@ negated_fits z h = grind (arith, ints)
 pub sum_below : (cs : List ℤ) → sum (map below cs) ≡ negatives cs
 sum_below cs = sum-map below cs ∙ sym (is_sum_by negatives below refl (λ c ds. refl) cs)
 
-below_small : (c : ℤ) → below c ≤ nat_abs c
+pub below_small : (c : ℤ) → below c ≤ nat_abs c
 below_small (pos a) = omega arith
 below_small (negsuc a) = omega arith
 

@@ -41,7 +41,7 @@ pub fn coefficients(sum: &Sum) -> [i32; MOST_PARTS]
     words_of(&sum.terms)
 }
 
-// `map` goes over an array three times, `from_fn` once
+// The word of each part. By from_fn, which goes over an array once, where map goes three times.
 fn words_of(terms: &[Option<i32>; MOST_PARTS]) -> [i32; MOST_PARTS]
     ensures { result ≡ map given terms.now }
 {
