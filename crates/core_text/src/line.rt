@@ -1,11 +1,11 @@
 // A line of a list of cores.
-ghost use Rattle.std.specs.Prelude.{◌≡◌, ℕ, ◌<◌, Some, IfOk};
+ghost use Rattle.std.specs.Prelude.{◌≡◌, ℕ, ◌<◌, Some, IfOk, take};
 ghost use Rattle.rules.specs.Rule.{at};
 ghost use Rattle.core_text.specs.Words.{line_error_words};
 ghost use Rattle.core_text.specs.Lines.{RowOf, ReadsLine};
 
 use arrayvec::ArrayVec;
-use rules::term::Rule;
+use rules::term::{Rule, WIDTH};
 use std::error::Error;
 use std::str::FromStr;
 use std::{array, fmt};
@@ -41,6 +41,16 @@ pub struct Row {
     pub numbers: [i32; 80],
     // how many there are
     pub length: usize,
+}
+
+impl Row {
+    // The whole row: its first numbers, and 0 at the other places, whatever stands there.
+    pub fn places(&self) -> [i32; 80]
+        ensures { (i : ℕ) → i < 80 → at result i ≡ at (take self.now.length self.now.numbers) i }
+    {
+        let first = &self.numbers[..self.length.min(WIDTH)];
+        array::from_fn(|i| first.get(i).copied().unwrap_or_default())
+    }
 }
 
 // The whole row of these first numbers.
