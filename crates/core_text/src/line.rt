@@ -35,7 +35,7 @@ impl fmt::Display for LineError {
 
 impl Error for LineError {}
 
-// Numbers at the first places of a row; the other places are 0.
+// Numbers at the first places of a row. In a row that is read the other places are 0.
 #[derive(Clone, Copy)]
 pub struct Row {
     pub numbers: [i32; 80],

@@ -9,10 +9,8 @@ mod tests {
 
     // This many numbers of a row that has a 7 at each place.
     fn sevens(length: usize) -> Row {
-        Row {
-            numbers: [7; WIDTH],
-            length,
-        }
+        let numbers = [7; WIDTH];
+        Row { numbers, length }
     }
 
     #[test]
