@@ -48,14 +48,13 @@ impl Row {
     pub fn places(&self) -> [i32; 80]
         ensures { (i : ℕ) → i < 80 → at result i ≡ at (take self.now.length self.now.numbers) i }
     {
-        let first = &self.numbers[..self.length.min(WIDTH)];
-        array::from_fn(|i| first.get(i).copied().unwrap_or_default())
+        places(&self.numbers[..self.length.min(WIDTH)])
     }
 }
 
-// The whole row of these first numbers.
-fn places(numbers: &ArrayVec<i32, 80>) -> [i32; 80]
-    ensures { (i : ℕ) → i < 80 → at result i ≡ at numbers.now.items i }
+// These first numbers, and 0 at the other places.
+fn places(numbers: &[i32]) -> [i32; 80]
+    ensures { (i : ℕ) → i < 80 → at result i ≡ at numbers.now i }
 {
     array::from_fn(|i| numbers.get(i).copied().unwrap_or(0))
 }
@@ -73,7 +72,7 @@ impl FromStr for Row {
             numbers.try_push(number).map_err(|_| LineError::Long)?;
         }
         Ok(Row {
-            numbers: places(&numbers),
+            numbers: places(numbers.as_slice()),
             length: numbers.len(),
         })
     }
